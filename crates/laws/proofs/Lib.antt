@@ -1,0 +1,3 @@
+pub mod Branches
+pub mod Every
+pub mod Folds

@@ -1,0 +1,27 @@
+-- The bits of a run of bytes in bus order, and copies that differ within eight adjacent bits.
+-- Assumes nothing.
+use mathlib.Core.Path.{_≡_}
+use mathlib.Core.Logic.{_⊎_}
+use mathlib.Core.Bool.{Bool, false}
+use Prim.Native.Nat.{ℕ, _+_, _/_, _%_, _<_, _≤_}
+use mathlib.Core.List.{List, [], _∷_, _++_}
+use lib.Dec.{eqb}
+use lib.ListN.{length, getD}
+
+-- a byte's bits, the high bit first
+unfoldable pub bits8 : ℕ → List Bool
+bits8 b =
+    eqb (b / 128 % 2) 1 ∷ eqb (b / 64 % 2) 1 ∷ eqb (b / 32 % 2) 1 ∷ eqb (b / 16 % 2) 1
+    ∷ eqb (b / 8 % 2) 1 ∷ eqb (b / 4 % 2) 1 ∷ eqb (b / 2 % 2) 1 ∷ eqb (b % 2) 1 ∷ []
+
+-- the bits of bytes as sent
+unfoldable pub busBits : List ℕ → List Bool
+busBits [] = []
+busBits (b ∷ bs) = bits8 b ++ busBits bs
+
+-- t is a changed copy of s: as long, some bit differs, and every bit outside eight adjacent ones, from `first` on, is the same
+pub record Changed (s t : List ℕ) : Type 0 where
+  pub same-length : length s ≡ length t
+  pub first : ℕ
+  pub outside : (n : ℕ) → (n < first) ⊎ (first + 8 ≤ n) → getD (busBits s) n false ≡ getD (busBits t) n false
+  pub changed : busBits s ≡ busBits t → ⊥

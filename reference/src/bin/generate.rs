@@ -1,0 +1,538 @@
+//! `generate SEED COUNT` writes a random frame file of COUNT lines, starting from
+//! power-on, to standard output. The same seed gives the same file. A model device
+//! follows the frames, so that words come near the present limits and the device
+//! does not stay protected, tripped or full of status bits.
+
+use reference::command::{self, Command};
+use reference::device::{Device, TEMPERATURE, VIN, VOUT};
+use reference::frame;
+use reference::linear11;
+use reference::pec::pec;
+use std::collections::VecDeque;
+use std::io::{self, BufWriter, Write};
+use std::process::ExitCode;
+
+/// SplitMix64.
+struct Random(u64);
+
+impl Random {
+    fn next(&mut self) -> u64 {
+        self.0 = self.0.wrapping_add(0x9E37_79B9_7F4A_7C15);
+        let mut value = self.0;
+        value = (value ^ (value >> 30)).wrapping_mul(0xBF58_476D_1CE4_E5B9);
+        value = (value ^ (value >> 27)).wrapping_mul(0x94D0_49BB_1331_11EB);
+        value ^ (value >> 31)
+    }
+
+    /// A number from 0 to `bound` - 1.
+    fn below(&mut self, bound: usize) -> usize {
+        ((self.next() >> 32) as usize * bound) >> 32
+    }
+
+    fn percent(&mut self, chance: usize) -> bool {
+        self.below(100) < chance
+    }
+
+    fn byte(&mut self) -> u8 {
+        self.next() as u8
+    }
+
+    fn word(&mut self) -> u16 {
+        self.next() as u16
+    }
+
+    fn bytes(&mut self, count: usize) -> Vec<u8> {
+        (0..count).map(|_| self.byte()).collect()
+    }
+
+    fn pick<T: Copy>(&mut self, choices: &[T]) -> T {
+        choices[self.below(choices.len())]
+    }
+}
+
+/// Words at the ends of the Linear11 range and around zero.
+const ENDS: [u16; 16] = [
+    0x7C00, 0x7BFF, 0x8001, 0x87FF, 0x8000, 0x8400, 0x83FF, 0x0000, 0x0001, 0xF802, 0x07FF, 0x0400,
+    0x03FF, 0xFFFF, 0x7FFF, 0xFC00,
+];
+
+/// Limit codes in the order of the causes, with their quantities.
+const LIMITS: [u8; 6] = [0x40, 0x46, 0x4F, 0x53, 0x55, 0x59];
+const QUANTITIES: [usize; 6] = [0, 1, 3, 3, 2, 2];
+const RESPONSES: [u8; 6] = [0x41, 0x47, 0x50, 0x54, 0x56, 0x5A];
+
+/// Words with no cause at the power-on limits: 1.2 V, 2 A, 12 V, 25 degrees.
+const CALM: [u16; 4] = [0x2666, 0xD080, 0xD300, 0xE8C8];
+
+struct Generator {
+    random: Random,
+    model: Device,
+    /// Lines decided on already.
+    pending: VecDeque<Vec<u8>>,
+}
+
+impl Generator {
+    fn new(seed: u64) -> Generator {
+        Generator {
+            random: Random(seed),
+            model: Device::power_on(),
+            pending: VecDeque::new(),
+        }
+    }
+
+    /// The next line, without its LF; the model follows it.
+    fn next_line(&mut self) -> Vec<u8> {
+        let line = match self.pending.pop_front() {
+            Some(line) => line,
+            None => self.choose(),
+        };
+        frame::answer(&mut self.model, &line, &mut io::sink()).expect("a sink takes all");
+        line
+    }
+
+    fn choose(&mut self) -> Vec<u8> {
+        if self.model.protect != 0 && self.random.percent(8) {
+            return self.write_line(0x10, &[0x00]);
+        }
+        match self.random.below(1000) {
+            0..=269 => self.measurement(),
+            270..=569 => self.write(),
+            570..=759 => self.read(),
+            760..=819 => self.sample(),
+            820..=869 => self.alert(),
+            870..=914 => self.clear_faults(),
+            915..=964 => self.bad_line(),
+            965..=989 => self.malformed(),
+            990..=995 => self.calm_page(),
+            996..=997 => self.snapshot(),
+            998 => self.samples_in_a_row(),
+            _ => self.codes_in_a_row(),
+        }
+    }
+
+    // Words.
+
+    /// A word near `limit`: equal, one off, equal in value but not in code, or negated.
+    fn near(&mut self, quantity: usize, limit: u16) -> u16 {
+        match self.random.below(10) {
+            0 | 1 => limit,
+            2 => limit.wrapping_add(1),
+            3 => limit.wrapping_sub(1),
+            4 => self.near_mantissa(limit, 1),
+            5 => self.near_mantissa(limit, 0x7FF),
+            6 if quantity == VOUT => limit ^ 0x8000,
+            6 | 7 => self.same_value(limit),
+            8 => (limit & 0xF800) | (limit.wrapping_neg() & 0x07FF),
+            _ => limit ^ 0x8000,
+        }
+    }
+
+    /// The word after a change of code, with `step` added to its low eleven bits.
+    fn near_mantissa(&mut self, word: u16, step: u16) -> u16 {
+        let word = self.same_value(word);
+        (word & 0xF800) | (word.wrapping_add(step) & 0x07FF)
+    }
+
+    /// A word of the same Linear11 value, another one where there is one.
+    fn same_value(&mut self, word: u16) -> u16 {
+        let value = linear11::scaled(word);
+        let start = self.random.below(32) as u16;
+        for offset in 0..32 {
+            let exponent = (start + offset) & 0x1F;
+            let shift = (exponent ^ 0x10) as u32;
+            let mantissa = value >> shift;
+            let fits = mantissa << shift == value && (-1024..1024).contains(&mantissa);
+            let found = exponent << 11 | (mantissa as u16 & 0x07FF);
+            if fits && found != word {
+                return found;
+            }
+        }
+        word
+    }
+
+    /// A word to measure on a page.
+    fn measured_word(&mut self, page: usize, quantity: usize) -> u16 {
+        let causes: &[usize] = match quantity {
+            VOUT => &[0],
+            VIN => &[4, 5],
+            TEMPERATURE => &[2, 3],
+            _ => &[1],
+        };
+        let limit = self.model.pages[page].limits[self.random.pick(causes)];
+        match self.random.below(20) {
+            0..=12 => self.near(quantity, limit),
+            13..=16 => CALM[quantity],
+            17 | 18 => self.random.pick(&ENDS),
+            _ => self.random.word(),
+        }
+    }
+
+    /// A limit to write on the selected page.
+    fn limit_word(&mut self, cause: usize) -> u16 {
+        let page = self.model.pages[usize::from(self.model.page)];
+        let quantity = QUANTITIES[cause];
+        let latest = page.readings[quantity].word;
+        match self.random.below(20) {
+            0..=9 => self.near(quantity, latest),
+            10..=12 => self.near(quantity, page.limits[cause]),
+            13..=16 => Device::power_on().pages[0].limits[cause],
+            17 | 18 => self.random.pick(&ENDS),
+            _ => self.random.word(),
+        }
+    }
+
+    // The five kinds of call.
+
+    fn measurement(&mut self) -> Vec<u8> {
+        let page = match self.random.below(20) {
+            0..=11 => self.model.page,
+            12..=18 => self.random.below(8) as u8,
+            _ => self.random.pick(&[8, 9, 0x60, 0xFF]),
+        };
+        let quantity = match self.random.below(40) {
+            0 => self.random.pick(&[4, 5, 0x80, 0xFF]),
+            _ => self.random.below(4) as u8,
+        };
+        let near_page = usize::from(page.min(7));
+        let word = self.measured_word(near_page, usize::from(quantity.min(3)));
+        measurement_line(page, quantity, word)
+    }
+
+    fn write(&mut self) -> Vec<u8> {
+        let code = match self.random.below(20) {
+            0 => self.random.byte(),
+            1 => self.random.pick(&command::TABLE).code,
+            _ => self.table_code(Command::written),
+        };
+        let data = self.write_data(code);
+        self.write_line(code, &data)
+    }
+
+    fn table_code(&mut self, wanted: fn(&Command) -> bool) -> u8 {
+        loop {
+            let command = self.random.pick(&command::TABLE);
+            if wanted(&command) {
+                return command.code;
+            }
+        }
+    }
+
+    /// Data of the length in the table, valid more often than not.
+    fn write_data(&mut self, code: u8) -> Vec<u8> {
+        let valid = self.random.percent(88);
+        if let Some(cause) = LIMITS.iter().position(|&limit| limit == code) {
+            return self.limit_word(cause).to_le_bytes().to_vec();
+        }
+        if RESPONSES.contains(&code) && valid {
+            return vec![self.random.pick(&[0x00, 0x80, 0xC0, 0xC0])];
+        }
+        match code {
+            0x00 if valid => vec![self.random.below(8) as u8],
+            0x00 => vec![self.random.pick(&[8, 9, 0x80, 0xFF])],
+            0x01 if valid => vec![self.random.pick(&[0x00, 0x40, 0x80, 0x80, 0x80])],
+            0x10 if valid => vec![self.random.pick(&[0x00, 0x00, 0x20, 0x40, 0x80])],
+            _ => {
+                let length = command::lookup(code).map_or(1, |command| command.data);
+                self.random.bytes(length)
+            }
+        }
+    }
+
+    /// A write of `code` and `data`, of right or wrong length and PEC.
+    fn write_line(&mut self, code: u8, data: &[u8]) -> Vec<u8> {
+        let mut bytes = vec![0xC0, code];
+        bytes.extend_from_slice(data);
+        let check = pec(&bytes);
+        match self.random.below(100) {
+            0..=47 => {}
+            48..=82 => bytes.push(check),
+            83..=86 => bytes.push(check ^ (1 << self.random.below(8))),
+            87..=88 => bytes.push(self.random.byte()),
+            89 => bytes.push(pec(&bytes[1..])), // address byte left out
+            90..=94 => bytes.truncate(2 + self.random.below(data.len() + 1)),
+            95..=97 => bytes.extend([check, self.random.byte()]),
+            _ => self.lengthen(&mut bytes),
+        }
+        frame_line(0x01, &bytes)
+    }
+
+    /// Adds random bytes up to the 255 that fit in a line of 512 characters.
+    fn lengthen(&mut self, bytes: &mut Vec<u8>) {
+        let length = match self.random.below(3) {
+            0 => 255,
+            1 => 254,
+            _ => 3 + self.random.below(250),
+        };
+        while bytes.len() < length {
+            bytes.push(self.random.byte());
+        }
+    }
+
+    fn read(&mut self) -> Vec<u8> {
+        let code = match self.random.below(20) {
+            0 => self.random.byte(),
+            1 => self.random.pick(&command::TABLE).code,
+            2..=9 => 0x78 + self.random.below(7) as u8,
+            10..=11 => 0x86,
+            _ => self.table_code(Command::read),
+        };
+        let n = self.clocked(code);
+        frame_line(0x02, &[n, 0xC0, code, 0xC1])
+    }
+
+    /// How many bytes the host clocks.
+    fn clocked(&mut self, code: u8) -> u8 {
+        let data = command::lookup(code).map_or(1, |command| command.data as u8);
+        match self.random.below(40) {
+            0 => 0,
+            1 => 1,
+            2..=12 => data,
+            13..=33 => data + 1,
+            34..=35 => data + 2,
+            36 => data.saturating_sub(1),
+            37 => self.random.pick(&[6, 7, 8, 9]),
+            38 => self.random.byte(),
+            _ => self.random.pick(&[254, 255]),
+        }
+    }
+
+    fn sample(&mut self) -> Vec<u8> {
+        let sample = match self.random.below(20) {
+            0 => 0,
+            1..=2 => 32767,
+            3 => 32768,
+            4 => self.random.word() | 0x8000,
+            5 => 32767 - self.model.account.accumulator,
+            6 => (32768 - self.model.account.accumulator).min(32767),
+            7..=9 => self.random.below(16) as u16,
+            _ => self.random.word() & 0x7FFF,
+        };
+        sample_line(sample)
+    }
+
+    fn alert(&mut self) -> Vec<u8> {
+        let n = match self.random.below(20) {
+            0 => 0,
+            1 => 2,
+            2 => self.random.pick(&[3, 255]),
+            _ => 1,
+        };
+        frame_line(0x05, &[n])
+    }
+
+    fn clear_faults(&mut self) -> Vec<u8> {
+        if self.random.percent(40) {
+            // On another page, and with the alert looked at afterwards.
+            let page = self.random.below(8) as u8;
+            let clear = self.write_line(0x03, &[]);
+            self.pending.push_back(clear);
+            self.pending.push_back(frame_line(0x05, &[1]));
+            return frame_line(0x01, &[0xC0, 0x00, page]);
+        }
+        self.write_line(0x03, &[])
+    }
+
+    // Rows of frames.
+
+    /// Takes all faults from one page and switches it on.
+    fn calm_page(&mut self) -> Vec<u8> {
+        let page = self.random.below(8) as u8;
+        let defaults = Device::power_on().pages[0].limits;
+        self.push_write(&[0x00, page]);
+        for (code, limit) in LIMITS.into_iter().zip(defaults) {
+            let [low, high] = limit.to_le_bytes();
+            self.push_write(&[code, low, high]);
+        }
+        for (quantity, word) in (0..).zip(CALM) {
+            self.pending
+                .push_back(measurement_line(page, quantity, word));
+        }
+        self.push_write(&[0x01, 0x00]);
+        self.push_write(&[0x01, 0x80]);
+        self.push_write(&[0x03]);
+        frame_line(0x01, &[0xC0, 0x10, 0x00])
+    }
+
+    fn push_write(&mut self, bytes: &[u8]) {
+        let mut whole = vec![0xC0];
+        whole.extend_from_slice(bytes);
+        self.pending.push_back(frame_line(0x01, &whole));
+    }
+
+    /// Reads every readable code, with PEC, of one page.
+    fn snapshot(&mut self) -> Vec<u8> {
+        for command in command::TABLE.iter().filter(|command| command.read()) {
+            let n = command.data as u8 + 1;
+            let line = frame_line(0x02, &[n, 0xC0, command.code, 0xC1]);
+            self.pending.push_back(line);
+        }
+        frame_line(0x01, &[0xC0, 0x00, self.random.below(8) as u8])
+    }
+
+    fn samples_in_a_row(&mut self) -> Vec<u8> {
+        for _ in 0..self.random.below(40) {
+            let line = self.sample();
+            self.pending.push_back(line);
+        }
+        frame_line(0x02, &[8, 0xC0, 0x86, 0xC1])
+    }
+
+    /// Sixteen neighbouring codes, read or written.
+    fn codes_in_a_row(&mut self) -> Vec<u8> {
+        let first = self.random.byte() & 0xF0;
+        let write = self.random.percent(50);
+        for code in first..=first | 0x0F {
+            let line = if write {
+                let data = self.write_data(code);
+                self.write_line(code, &data)
+            } else {
+                let n = self.clocked(code);
+                frame_line(0x02, &[n, 0xC0, code, 0xC1])
+            };
+            self.pending.push_back(line);
+        }
+        frame_line(0x02, &[2, 0xC0, 0x79, 0xC1])
+    }
+
+    // Frames with something wrong.
+
+    /// Wrong addresses and headers, in lines that are good.
+    fn malformed(&mut self) -> Vec<u8> {
+        let code = self.table_code(Command::read);
+        let byte = self.random.byte();
+        match self.random.below(12) {
+            0 => frame_line(0x01, &[]),
+            1 => frame_line(0x01, &[0xC0]),
+            2 => frame_line(0x01, &[byte]),
+            3 => frame_line(0x01, &[self.random.pick(&[0xC1, 0x60, byte]), code, 0x00]),
+            4 => frame_line(0x02, &[byte]),
+            5 => frame_line(0x02, &[2, 0xC0]),
+            6 => frame_line(0x02, &[2, byte]),
+            7 => frame_line(0x02, &[2, 0xC0, code]),
+            8 => frame_line(0x02, &[3, 0xC0, code, self.random.pick(&[0xC0, byte])]),
+            9 => frame_line(0x02, &[2, 0xC0, code, 0xC1, byte]),
+            10 => frame_line(0x02, &[2, self.random.pick(&[0xC1, byte]), code, 0xC1]),
+            _ => {
+                let mut bytes = vec![self.random.pick(&[0xC0, byte])];
+                self.lengthen(&mut bytes);
+                frame_line(self.random.pick(&[0x01, 0x02]), &bytes)
+            }
+        }
+    }
+
+    /// A line that gives `ff`, save that one of 511 or 512 digits may be good.
+    fn bad_line(&mut self) -> Vec<u8> {
+        let good = frame_line(0x01, &[0xC0, 0x01, 0xAB]);
+        match self.random.below(16) {
+            0 => Vec::new(),
+            1 => good[..good.len() - 1].to_vec(),
+            2 => good.to_ascii_uppercase(),
+            3 => [&good[..], b"\r"].concat(),
+            4 => [&good[..], b"\r\r"].concat(),
+            5 => self.spoil(good, 0x00),
+            6 => {
+                let high = self.random.byte() | 0x80;
+                self.spoil(good, high)
+            }
+            7 => self.spoil(good, b' '),
+            8 => {
+                let other = self.random.pick(b"gG/:@`xX#-+.\t\x0B\x0C\x7F\r");
+                self.spoil(good, other)
+            }
+            9 => {
+                let first = self.random.pick(&[0x00, 0x06, 0x07, 0x10, 0xC0, 0xFF]);
+                frame_line(first, &[0xC0, 0x03])
+            }
+            10 | 11 => self.wrong_count(),
+            12 => self.long_line(511),
+            13 => self.long_line(512),
+            14 => self.long_line(513),
+            _ => {
+                let length = self.random.pick(&[514, 1024, 2000]);
+                self.long_line(length)
+            }
+        }
+    }
+
+    /// The line with one character replaced.
+    fn spoil(&mut self, mut line: Vec<u8>, character: u8) -> Vec<u8> {
+        let place = self.random.below(line.len());
+        line[place] = character;
+        line
+    }
+
+    /// Too few or too many bytes for 02 to 05.
+    fn wrong_count(&mut self) -> Vec<u8> {
+        let (first, counts): (u8, &[usize]) = self.random.pick(&[
+            (0x02, &[0][..]),
+            (0x03, &[0, 1, 2, 3, 5, 6][..]),
+            (0x04, &[0, 1, 3, 4][..]),
+            (0x05, &[0, 2, 3][..]),
+        ]);
+        let count = self.random.pick(counts);
+        let bytes = self.random.bytes(count);
+        frame_line(first, &bytes)
+    }
+
+    /// Digits of a write, cut or continued to `length` characters.
+    fn long_line(&mut self, length: usize) -> Vec<u8> {
+        let code = self.table_code(Command::written);
+        let bytes = self.random.bytes(length);
+        let mut line = frame_line(0x01, &[0xC0, code]);
+        line.extend(frame_line(code, &bytes));
+        line.truncate(length);
+        line
+    }
+}
+
+fn measurement_line(page: u8, quantity: u8, word: u16) -> Vec<u8> {
+    let [low, high] = word.to_le_bytes();
+    frame_line(0x03, &[page, quantity, low, high])
+}
+
+fn sample_line(sample: u16) -> Vec<u8> {
+    frame_line(0x04, &sample.to_le_bytes())
+}
+
+/// A frame in lower-case hexadecimal, without LF.
+fn frame_line(first: u8, bytes: &[u8]) -> Vec<u8> {
+    const DIGITS: &[u8; 16] = b"0123456789abcdef";
+    let mut line = Vec::with_capacity(2 + 2 * bytes.len());
+    for &byte in std::iter::once(&first).chain(bytes) {
+        line.push(DIGITS[usize::from(byte >> 4)]);
+        line.push(DIGITS[usize::from(byte & 0x0F)]);
+    }
+    line
+}
+
+fn arguments() -> Option<(u64, u64)> {
+    let arguments: Vec<String> = std::env::args().skip(1).collect();
+    match &arguments[..] {
+        [seed, count] => Some((seed.parse().ok()?, count.parse().ok()?)),
+        _ => None,
+    }
+}
+
+fn generate(seed: u64, count: u64) -> io::Result<()> {
+    let mut output = BufWriter::with_capacity(64 * 1024, io::stdout().lock());
+    let mut generator = Generator::new(seed);
+    for _ in 0..count {
+        output.write_all(&generator.next_line())?;
+        output.write_all(b"\n")?;
+    }
+    output.flush()
+}
+
+fn main() -> ExitCode {
+    let Some((seed, count)) = arguments() else {
+        eprintln!("usage: generate SEED COUNT");
+        return ExitCode::from(2);
+    };
+    match generate(seed, count) {
+        Ok(()) => ExitCode::SUCCESS,
+        Err(error) => {
+            eprintln!("generate: {error}");
+            ExitCode::FAILURE
+        }
+    }
+}

@@ -1,0 +1,142 @@
+//! The frame file (01, "Frame file"): one frame a line in, one answer a line out.
+//! Constant memory, any input bytes whatever.
+
+use crate::device::Device;
+use std::io::{self, BufWriter, ErrorKind, Read, Write};
+
+/// Characters of the line buffer, LF not counted.
+pub const LINE: usize = 512;
+const BLOCK: usize = 64 * 1024;
+
+/// Runs a frame file from power-on to the end of the input.
+pub fn run(input: &mut impl Read, output: &mut impl Write) -> io::Result<()> {
+    let mut output = BufWriter::with_capacity(BLOCK, output);
+    let mut block = vec![0u8; BLOCK];
+    let mut device = Device::power_on();
+    let mut line = Line::empty();
+    loop {
+        let count = match input.read(&mut block) {
+            Ok(0) => break,
+            Ok(count) => count,
+            Err(error) if error.kind() == ErrorKind::Interrupted => continue,
+            Err(error) => return Err(error),
+        };
+        for &byte in &block[..count] {
+            if byte == b'\n' {
+                line.finish(&mut device, &mut output)?;
+            } else {
+                line.push(byte);
+            }
+        }
+    }
+    // A last line without LF counts if it has characters.
+    if line.length > 0 {
+        line.finish(&mut device, &mut output)?;
+    }
+    output.flush()
+}
+
+/// The line buffer. `overlong` is set when a character found no room.
+struct Line {
+    characters: [u8; LINE],
+    length: usize,
+    overlong: bool,
+}
+
+impl Line {
+    fn empty() -> Line {
+        Line {
+            characters: [0u8; LINE],
+            length: 0,
+            overlong: false,
+        }
+    }
+
+    fn push(&mut self, character: u8) {
+        if self.length < LINE {
+            self.characters[self.length] = character;
+            self.length += 1;
+        } else {
+            self.overlong = true;
+        }
+    }
+
+    /// Answers the line and empties the buffer.
+    fn finish(&mut self, device: &mut Device, output: &mut impl Write) -> io::Result<()> {
+        let result = if self.overlong {
+            bad(output)
+        } else {
+            answer(device, &self.characters[..self.length], output)
+        };
+        self.length = 0;
+        self.overlong = false;
+        result
+    }
+}
+
+/// Answers one line, given without its LF.
+pub fn answer(device: &mut Device, line: &[u8], output: &mut impl Write) -> io::Result<()> {
+    let mut buffer = [0u8; LINE / 2];
+    let Some(frame) = decode(line, &mut buffer) else {
+        return bad(output);
+    };
+    let mut reply = [0u8; 255];
+    match *frame {
+        [0x01, ref bytes @ ..] => put(output, device.write(bytes), &[]),
+        [0x02, n, ref header @ ..] => {
+            let reply = &mut reply[..usize::from(n)];
+            put(output, device.read(header, reply), reply)
+        }
+        [0x03, page, quantity, low, high] => {
+            let word = u16::from_le_bytes([low, high]);
+            put(output, device.measure(page, quantity, word), &[])
+        }
+        [0x04, low, high] => put(output, device.sample(u16::from_le_bytes([low, high])), &[]),
+        [0x05, n] => {
+            let reply = &mut reply[..usize::from(n)];
+            put(output, device.alert_response(reply), reply)
+        }
+        _ => bad(output),
+    }
+}
+
+/// The bytes of a line of lower-case hexadecimal; none when it is empty, too
+/// long, odd in digits or has any other character.
+fn decode<'a>(line: &[u8], bytes: &'a mut [u8; LINE / 2]) -> Option<&'a [u8]> {
+    if line.is_empty() || line.len() > LINE || line.len() % 2 != 0 {
+        return None;
+    }
+    for (byte, pair) in bytes.iter_mut().zip(line.chunks_exact(2)) {
+        *byte = digit(pair[0])? << 4 | digit(pair[1])?;
+    }
+    Some(&bytes[..line.len() / 2])
+}
+
+fn digit(character: u8) -> Option<u8> {
+    match character {
+        b'0'..=b'9' => Some(character - b'0'),
+        b'a'..=b'f' => Some(character - b'a' + 10),
+        _ => None,
+    }
+}
+
+/// One output line: answer, then reply, two digits a byte.
+fn put(output: &mut impl Write, answer: u8, reply: &[u8]) -> io::Result<()> {
+    put_byte(output, answer)?;
+    for &byte in reply {
+        put_byte(output, byte)?;
+    }
+    output.write_all(b"\n")
+}
+
+fn put_byte(output: &mut impl Write, byte: u8) -> io::Result<()> {
+    const DIGITS: &[u8; 16] = b"0123456789abcdef";
+    let high = DIGITS[usize::from(byte >> 4)];
+    let low = DIGITS[usize::from(byte & 0x0F)];
+    output.write_all(&[high, low])
+}
+
+/// The output for a bad line, which changes nothing.
+fn bad(output: &mut impl Write) -> io::Result<()> {
+    output.write_all(b"ff\n")
+}
