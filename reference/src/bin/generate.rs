@@ -94,6 +94,10 @@ impl Generator {
         if self.model.protect != 0 && self.random.percent(8) {
             return self.write_line(0x10, &[0x00]);
         }
+        if !self.selected_page_supplies() && self.random.percent(4) {
+            self.push_write(&[0x01, 0x80]);
+            return self.write_line(0x01, &[0x00]);
+        }
         match self.random.below(1000) {
             0..=269 => self.measurement(),
             270..=569 => self.write(),
@@ -108,6 +112,10 @@ impl Generator {
             998 => self.samples_in_a_row(),
             _ => self.codes_in_a_row(),
         }
+    }
+
+    fn selected_page_supplies(&self) -> bool {
+        self.model.pages[usize::from(self.model.page)].supplies()
     }
 
     // Words.
@@ -334,7 +342,7 @@ impl Generator {
 
     // Rows of frames.
 
-    /// Takes all faults from one page and switches it on.
+    /// Takes all faults from one page, gives it new responses and switches it on.
     fn calm_page(&mut self) -> Vec<u8> {
         let page = self.random.below(8) as u8;
         let defaults = Device::power_on().pages[0].limits;
@@ -342,6 +350,10 @@ impl Generator {
         for (code, limit) in LIMITS.into_iter().zip(defaults) {
             let [low, high] = limit.to_le_bytes();
             self.push_write(&[code, low, high]);
+        }
+        for code in RESPONSES {
+            let response = self.random.pick(&[0x00, 0x00, 0x80, 0xC0, 0xC0]);
+            self.push_write(&[code, response]);
         }
         for (quantity, word) in (0..).zip(CALM) {
             self.pending
