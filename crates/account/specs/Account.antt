@@ -27,6 +27,10 @@ unfoldable pub sampled : Account → ℕ → Sampled
 sampled a sample =
     cond (ltb sample 32768) (record { account = added a sample; answer = 0 }) (record { account = a; answer = 13 })
 
+-- "rollover times 32768 plus accumulator"
+unfoldable pub energyReading : Account → ℕ
+energyReading a = a .rollover * 32768 + a .accumulator
+
 -- READ_EIN: 06h, accumulator low, high, rollover, count low, middle, high
 unfoldable pub einBytes : Account → List ℕ
 einBytes a =
@@ -39,7 +43,7 @@ einBytes a =
     ∷ a .count / 65536 % 256
     ∷ []
 
--- the account that the bytes of such a reply carry
+-- the account that the bytes of such a reply carry; a byte that is not there is taken as 0
 unfoldable pub accountOf : List ℕ → Account
 accountOf s =
     account (getD s 1 0 + getD s 2 0 * 256) (getD s 3 0) (getD s 4 0 + getD s 5 0 * 256 + getD s 6 0 * 65536)

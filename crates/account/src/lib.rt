@@ -2,7 +2,8 @@
 // It knows nothing of the device that holds it.
 ghost use mathlib.Core.Path.{_≡_};
 ghost use Prim.Native.Nat.{_<_};
-ghost use Rattle.account.specs.Account.{accountValid, added, sampled, einBytes, accountOf};
+ghost use lib.ListN.{getD};
+ghost use Rattle.account.specs.Account.{accountValid, added, sampled, energyReading, einBytes, accountOf};
 
 // Wider than the reply's fields, so that a state handed in may be out of range.
 #[repr(C)]
@@ -68,6 +69,13 @@ pub fn sample(a: Account, sample: u16) -> Sampled
     }
 }
 
+// The energy that the account shows, in samples' units, modulo 8,388,608.
+pub fn energy_reading(a: Account) -> u32
+    ensures { λ r. ⌜ r ≡ energyReading a ⌝ }
+{
+    (a.rollover as u32) * 32768 + (a.accumulator as u32)
+}
+
 // The seven data bytes of READ_EIN.
 pub fn ein_bytes(a: Account) -> [u8; 7]
     ensures { λ r. ⌜ r ≡ einBytes a ⌝ }
@@ -81,4 +89,25 @@ pub fn ein_bytes(a: Account) -> [u8; 7]
         (a.count / 256 % 256) as u8,
         (a.count / 65536 % 256) as u8,
     ]
+}
+
+// The byte at a place, 0 past the end.
+fn byte_at(s: &[u8], place: usize) -> u32
+    ensures { λ r. ⌜ (r ≡ getD (now (s .entry)) place 0) × (r < 256) ⌝ }
+{
+    if place < s.len() {
+        return s[place] as u32;
+    }
+    0
+}
+
+// The account in the bytes of such a reply, of which any number may be there.
+pub fn account_from(s: &[u8]) -> Account
+    ensures { λ r. ⌜ r ≡ accountOf (now (s .entry)) ⌝ }
+{
+    Account {
+        accumulator: (byte_at(s, 1) + byte_at(s, 2) * 256) as u16,
+        rollover: byte_at(s, 3) as u16,
+        count: byte_at(s, 4) + byte_at(s, 5) * 256 + byte_at(s, 6) * 65536,
+    }
 }
