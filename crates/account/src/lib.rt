@@ -69,7 +69,7 @@ pub fn sample(a: Account, sample: u16) -> Sampled
     }
 }
 
-// The energy that the account shows, in samples' units, modulo 8,388,608.
+// The energy reading: rollover count and accumulator as one number, of 23 bits where the account is valid.
 pub fn energy_reading(a: Account) -> u32
     ensures { λ r. ⌜ r ≡ energyReading a ⌝ }
 {
@@ -101,7 +101,7 @@ fn byte_at(s: &[u8], place: usize) -> u32
     0
 }
 
-// The account in the bytes of such a reply, of which any number may be there.
+// The account that the bytes of such a reply carry; a byte that is not there is taken as 0.
 pub fn account_from(s: &[u8]) -> Account
     ensures { λ r. ⌜ r ≡ accountOf (now (s .entry)) ⌝ }
 {

@@ -1,2 +1,5 @@
 pub mod Xor
+pub mod Laws
+pub mod Bits
+pub mod Window
 pub mod Burst

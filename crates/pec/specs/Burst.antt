@@ -1,4 +1,4 @@
--- The bits of a run of bytes in bus order, and copies that differ within eight adjacent bits.
+-- Bits in bus order and changed copies, as document 01's demand 3 speaks of them.
 -- Assumes nothing.
 use mathlib.Core.Path.{_≡_}
 use mathlib.Core.Logic.{_⊎_}
@@ -8,18 +8,19 @@ use mathlib.Core.List.{List, [], _∷_, _++_}
 use lib.Dec.{eqb}
 use lib.ListN.{length, getD}
 
--- a byte's bits, the high bit first
+-- "the high bit of each first"
 unfoldable pub bits8 : ℕ → List Bool
 bits8 b =
     eqb (b / 128 % 2) 1 ∷ eqb (b / 64 % 2) 1 ∷ eqb (b / 32 % 2) 1 ∷ eqb (b / 16 % 2) 1
     ∷ eqb (b / 8 % 2) 1 ∷ eqb (b / 4 % 2) 1 ∷ eqb (b / 2 % 2) 1 ∷ eqb (b % 2) 1 ∷ []
 
--- the bits of bytes as sent
+-- "Adjacent bits in demand 3 are in bus order: bytes as sent, the high bit of each first."
 unfoldable pub busBits : List ℕ → List Bool
 busBits [] = []
 busBits (b ∷ bs) = bits8 b ++ busBits bs
 
--- t is a changed copy of s: as long, some bit differs, and every bit outside eight adjacent ones, from `first` on, is the same
+-- "In a changed copy at least one bit differs, and all that differ lie within eight adjacent ones": t is such a copy of s, as long as s.
+-- The window is the eight adjacent bits from `first` on; no bit before it and none after it differs.
 pub record Changed (s t : List ℕ) : Type 0 where
   pub same-length : length s ≡ length t
   pub first : ℕ

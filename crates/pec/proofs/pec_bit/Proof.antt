@@ -1,7 +1,9 @@
-use mathlib.Core.Path.{_≡_, refl, ap, _∙_}
-use Prim.Native.Nat.{ℕ, _<_, _≤_, _*_, _/_, _%_}
+-- `pec::pec_bit` meets its contract: the masked high bit is the definition's test.
+-- Assumes nothing.
+use mathlib.Core.Path.{_≡_}
+use Prim.Native.Nat.{ℕ, _<_, _≤_}
 use native.Mathlib.Omega.{arith}
-use lib.Bits.{bitAnd, bitXor, and-high}
+use lib.Bits.{bitAnd, and-high}
 use lib.Pow.{shr-mod}
 use borrow.Author.Tests.{le-ltb, lt-ltb}
 use Rattle.pec.specs.Pec.{pecBit}

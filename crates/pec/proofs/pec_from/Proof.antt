@@ -1,4 +1,6 @@
-use mathlib.Core.Path.{_≡_, refl, sym, ap, _∙_}
+-- `pec::pec_from` meets its contract: what is left of the bytes, from the register so far, gives the check of the whole.
+-- Assumes nothing.
+use mathlib.Core.Path.{_≡_, refl}
 use mathlib.Core.List.{List}
 use native.Mathlib.Numerals.{add-one}
 use lib.Seq.{drop-cons}
@@ -10,7 +12,6 @@ use Rattle.pec.specs.Pec.{pecFrom, pecByte}
 use Rattle.pec.proofs.pec_from.Statement.{statement}
 use Rattle.pec.proofs.pec_from.Tie as tie
 
--- what is left to fold gives the whole's check
 abbrev Inv-loop : tie.InvT-loop
 Inv-loop crc s r₀ i₀ r i = (i ≤ length s) × (pecFrom r (drop i s) ≡ pecFrom crc s)
 

@@ -1,0 +1,2 @@
+pub mod Linear11
+pub mod Sheet
