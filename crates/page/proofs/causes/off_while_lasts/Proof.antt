@@ -1,0 +1,57 @@
+-- `page::off_while_lasts` meets its contract.
+-- Assumes nothing.
+use Rattle.laws.proofs.Branches.{calls}
+use Rattle.page.specs.Causes.{offWhileLasts}
+use borrow.Author.Needs.{needs}
+use Rattle.page.proofs.causes.off_while_lasts.Statement.{statement}
+use Rattle.page.proofs.causes.off_while_lasts.Tie as tie
+
+array-read-result : tie.Need-array-read-result
+array-read-result c = search needs
+
+array-read-result-2 : tie.Need-array-read-result-2
+array-read-result-2 c = search needs
+
+array-read-result-3 : tie.Need-array-read-result-3
+array-read-result-3 c = search needs
+
+array-read-result-4 : tie.Need-array-read-result-4
+array-read-result-4 c = search needs
+
+array-read-result-5 : tie.Need-array-read-result-5
+array-read-result-5 c = search needs
+
+array-read-result-6 : tie.Need-array-read-result-6
+array-read-result-6 c = search needs
+
+array-read-result-7 : tie.Need-array-read-result-7
+array-read-result-7 c = search needs
+
+array-read-result-8 : tie.Need-array-read-result-8
+array-read-result-8 c = search needs
+
+array-read-result-9 : tie.Need-array-read-result-9
+array-read-result-9 c = search needs
+
+array-read-result-10 : tie.Need-array-read-result-10
+array-read-result-10 c = search needs
+
+returns : tie.Need-returns
+unfolding offWhileLasts
+returns c = search calls depth 30 fits 20000
+
+pub off-while-lasts-spec : {M : Type 1} → statement M
+off-while-lasts-spec =
+    tie.close
+    (tie.spec
+    array-read-result
+    array-read-result-2
+    array-read-result-3
+    array-read-result-4
+    array-read-result-5
+    array-read-result-6
+    array-read-result-7
+    array-read-result-8
+    array-read-result-9
+    array-read-result-10
+    returns)

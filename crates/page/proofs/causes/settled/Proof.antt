@@ -1,0 +1,23 @@
+-- `page::settled` meets its contract.
+-- Assumes nothing.
+use Rattle.page.specs.Causes.{settled}
+use borrow.Author.Needs.{needs}
+use Rattle.page.proofs.causes.settled.Statement.{statement}
+use Rattle.page.proofs.causes.settled.Tie as tie
+
+present-causes-requires : tie.Need-present-causes-requires
+present-causes-requires c κs = search needs
+
+raised-requires : tie.Need-raised-requires
+raised-requires c κs = search needs
+
+stays-off-requires : tie.Need-stays-off-requires
+stays-off-requires c κs = search needs
+
+returns : tie.Need-returns
+unfolding settled
+returns c = cc
+
+pub settled-spec : {M : Type 1} → statement M
+settled-spec =
+    tie.close (tie.spec present-causes-requires raised-requires stays-off-requires returns)

@@ -1,0 +1,23 @@
+-- `page::limited` meets its contract.
+-- Assumes nothing.
+use Rattle.laws.proofs.Branches.{calls}
+use Rattle.page.specs.Settings.{limited}
+use borrow.Author.Needs.{needs}
+use Rattle.page.proofs.settings.limited.Statement.{statement}
+use Rattle.page.proofs.settings.limited.Tie as tie
+
+cast-i : tie.Need-cast-i
+cast-i c = search needs
+
+mul-q : tie.Need-mul-q
+mul-q c = search needs
+
+element-write-q : tie.Need-element-write-q
+element-write-q c = search needs
+
+returns : tie.Need-returns
+unfolding limited
+returns c = search calls depth 30 fits 20000
+
+pub limited-spec : {M : Type 1} → statement M
+limited-spec = tie.close (tie.spec cast-i mul-q element-write-q returns)

@@ -1,0 +1,65 @@
+-- `page::risen` meets its contract.
+-- Assumes nothing.
+use Rattle.laws.proofs.Branches.{calls}
+use Rattle.page.specs.Status.{risen}
+use borrow.Author.Needs.{needs}
+use Rattle.page.proofs.status.risen.Statement.{statement}
+use Rattle.page.proofs.status.risen.Tie as tie
+
+element-copy-out-result : tie.Need-element-copy-out-result
+element-copy-out-result c = search needs
+
+element-copy-out-result-2 : tie.Need-element-copy-out-result-2
+element-copy-out-result-2 c = search needs
+
+element-copy-out-result-3 : tie.Need-element-copy-out-result-3
+element-copy-out-result-3 c = search needs
+
+element-copy-out-result-4 : tie.Need-element-copy-out-result-4
+element-copy-out-result-4 c = search needs
+
+element-copy-out-result-5 : tie.Need-element-copy-out-result-5
+element-copy-out-result-5 c = search needs
+
+element-copy-out-result-6 : tie.Need-element-copy-out-result-6
+element-copy-out-result-6 c = search needs
+
+element-copy-out-result-7 : tie.Need-element-copy-out-result-7
+element-copy-out-result-7 c = search needs
+
+element-copy-out-result-8 : tie.Need-element-copy-out-result-8
+element-copy-out-result-8 c = search needs
+
+element-copy-out-result-9 : tie.Need-element-copy-out-result-9
+element-copy-out-result-9 c = search needs
+
+element-copy-out-result-10 : tie.Need-element-copy-out-result-10
+element-copy-out-result-10 c = search needs
+
+element-copy-out-result-11 : tie.Need-element-copy-out-result-11
+element-copy-out-result-11 c = search needs
+
+element-copy-out-result-12 : tie.Need-element-copy-out-result-12
+element-copy-out-result-12 c = search needs
+
+returns : tie.Need-returns
+unfolding risen
+returns c = search calls depth 30 fits 20000
+
+pub risen-spec : {M : Type 1} → statement M
+risen-spec =
+    tie.close
+    (tie.spec
+    element-copy-out-result
+    element-copy-out-result-2
+    element-copy-out-result-3
+    element-copy-out-result-4
+    element-copy-out-result-5
+    element-copy-out-result-6
+    element-copy-out-result-7
+    element-copy-out-result-8
+    element-copy-out-result-9
+    element-copy-out-result-10
+    element-copy-out-result-11
+    element-copy-out-result-12
+    returns)

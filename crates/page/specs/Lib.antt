@@ -1,0 +1,4 @@
+pub mod Page
+pub mod Causes
+pub mod Settings
+pub mod Status
