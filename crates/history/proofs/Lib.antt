@@ -4,3 +4,8 @@ pub mod Refusals
 pub mod Settled
 pub mod PageLeft
 pub mod Outcomes
+pub mod PageAfter
+pub mod Runs
+pub mod Latching
+pub mod Tripping
+pub mod Cml

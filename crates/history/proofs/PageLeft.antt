@@ -1,7 +1,7 @@
 -- What a call leaves of a page: the page as it was, or a changed one brought up to date.
 -- Assumes nothing.
 use Prim.Native.Nat.{ℕ, zero, suc}
-use mathlib.Core.Path.{_≡_, refl, sym, ap, _∙_}
+use mathlib.Core.Path.{_≡_, refl, sym, ap, ap₂, _∙_}
 use mathlib.Core.Logic.{_⊎_, inl, inr}
 use mathlib.Core.Bool.{Bool, true, false, not, _&&_, _||_, and-true, and-false}
 use mathlib.Core.List.{List, [], _∷_}
@@ -84,3 +84,14 @@ module _ (u : Unpaged) (p : Page) where
   pub measured-page : (quantity word : ℕ) → PageLeft p (measuredEffect u p quantity word .page) (λ j k. false) false
   unfolding measuredEffect settledEffect measured
   measured-page quantity word = touched (measured p quantity word) refl (plain p (measured p quantity word) refl refl)
+
+-- the same, said of equal pages and tests
+pub same-left : (p p′ r r′ : Page) (clear clear′ : ℕ → ℕ → Bool) (off off′ : Bool) → p′ ≡ p → r′ ≡ r
+    → ((j k : ℕ) → clear′ j k ≡ clear j k) → off′ ≡ off → PageLeft p r clear off → PageLeft p′ r′ clear′ off′
+same-left p p′ r r′ clear clear′ off off′ a b c o (kept e s h) = kept (b ∙ e ∙ sym a) (λ j k. c j k ∙ s j k) (o ∙ h)
+same-left p p′ r r′ clear clear′ off off′ a b c o (touched q e h) =
+    touched q (b ∙ e)
+    (record {
+      bits = λ j k. h .bits j k ∙ ap₂ (λ (x : Page) (y : Bool). statusBit x j k && not y) (sym a) (sym (c j k));
+      trip = h .trip ∙ ap₂ (λ (x : Page) (y : Bool). x .tripped && not y) (sym a) (sym o);
+    })

@@ -1,6 +1,6 @@
 -- The listed clearings of status bits, and that a bit falls by nothing else.
 -- Assumes nothing.
-use Prim.Native.Nat.{ℕ}
+use Prim.Native.Nat.{ℕ, _<_}
 use mathlib.Core.Path.{_≡_}
 use mathlib.Core.Bool.{Bool, true, false, _&&_}
 use mathlib.Core.List.{List}
@@ -38,8 +38,8 @@ clearsCml d c k = clearingCall d c
 -- "It falls only by an accepted CLEAR_FAULTS": a bit that is 1 before a call and 0 after it was cleared by that call
 unfoldable pub Falls : Type 0
 Falls =
-    (d : Device) (c : Call) (i j k : ℕ) → Whole d → statusBit (pageOf d i) j k ≡ true → statusBit (pageOf (next d c) i) j k ≡ false
-    → clears d c i j k ≡ true
+    (d : Device) (c : Call) (i j k : ℕ) → Whole d → j < 4 → statusBit (pageOf d i) j k ≡ true
+    → statusBit (pageOf (next d c) i) j k ≡ false → clears d c i j k ≡ true
 
 unfoldable pub FallsCml : Type 0
 FallsCml = (d : Device) (c : Call) (k : ℕ) → cmlBit d k ≡ true → cmlBit (next d c) k ≡ false → clearsCml d c k ≡ true
