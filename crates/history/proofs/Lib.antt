@@ -9,3 +9,5 @@ pub mod Runs
 pub mod Latching
 pub mod Tripping
 pub mod Cml
+pub mod ValidPage
+pub mod Valid
