@@ -11,3 +11,4 @@ pub mod Tripping
 pub mod Cml
 pub mod ValidPage
 pub mod Valid
+pub mod StatusWords

@@ -23,24 +23,24 @@ use Rattle.history.specs.Latching.{causeBits, causes, registerOf, bitOf,
 use Rattle.history.specs.Tripping.{stayOff}
 
 -- the bit of weight 2 ^ m, where b is set
-weighed : (b : Bool) (m k : ℕ) → bit (weigh b (2 ^ m)) k ≡ (b && eqb m k)
+pub weighed : (b : Bool) (m k : ℕ) → bit (weigh b (2 ^ m)) k ≡ (b && eqb m k)
 unfolding weigh
 weighed b m k = cond-bit b (2 ^ m) k ∙ ap (λ (x : Bool). b && x) (power-bit m k)
 
-one-cause : (s : ℕ) (b : Bool) (m k : ℕ) → bit (bitOr s (weigh b (2 ^ m))) k ≡ (bit s k || (b && eqb m k))
-one-cause s b m k = or-bit s (weigh b (2 ^ m)) k ∙ ap (λ (x : Bool). bit s k || x) (weighed b m k)
+pub or-weighed : (s : ℕ) (b : Bool) (m k : ℕ) → bit (bitOr s (weigh b (2 ^ m))) k ≡ (bit s k || (b && eqb m k))
+or-weighed s b m k = or-bit s (weigh b (2 ^ m)) k ∙ ap (λ (x : Bool). bit s k || x) (weighed b m k)
 
 two-causes : (s : ℕ) (a b : Bool) (m n k : ℕ)
     → bit (bitOr (bitOr s (weigh a (2 ^ m))) (weigh b (2 ^ n))) k ≡ (bit s k || (a && eqb m k || b && eqb n k))
 two-causes s a b m n k =
-    one-cause (bitOr s (weigh a (2 ^ m))) b n k ∙ ap (λ (x : Bool). x || b && eqb n k) (one-cause s a m k)
+    or-weighed (bitOr s (weigh a (2 ^ m))) b n k ∙ ap (λ (x : Bool). x || b && eqb n k) (or-weighed s a m k)
     ∙ or-assoc (bit s k) (a && eqb m k) (b && eqb n k)
 
 -- each bit of an updated page stood before or has a present cause
 pub settled-bit : (q : Page) (j k : ℕ) → j < 4 → statusBit (settled q) j k ≡ (statusBit q j k || caused q j k)
 unfolding settled raised caused registerOf bitOf causeBits
-settled-bit q zero k h = one-cause (getD (q .status) 0 0) (present q 0) 7 k ∙ simp (and-false, or-false)
-settled-bit q (suc zero) k h = one-cause (getD (q .status) 1 0) (present q 1) 7 k ∙ simp (and-false, or-false)
+settled-bit q zero k h = or-weighed (getD (q .status) 0 0) (present q 0) 7 k ∙ simp (and-false, or-false)
+settled-bit q (suc zero) k h = or-weighed (getD (q .status) 1 0) (present q 1) 7 k ∙ simp (and-false, or-false)
 settled-bit q (suc (suc zero)) k h =
     two-causes (getD (q .status) 2 0) (present q 4) (present q 5) 7 4 k ∙ simp (and-false, or-false)
 settled-bit q (suc (suc (suc zero))) k h =
