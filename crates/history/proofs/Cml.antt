@@ -33,7 +33,7 @@ use Rattle.history.proofs.Refusals.{refused-call}
 use Rattle.history.proofs.Outcomes.{wrote, effectOf, put-cml, was-measured}
 use Rattle.history.proofs.PageAfter.{refused-tests}
 
-written-cml : (u : Unpaged) (p : Page) (c : Command) (x w : ℕ) → written u p c x w .unpaged .cml ≡ cond (clearsAll c) 0 (u .cml)
+pub written-cml : (u : Unpaged) (p : Page) (c : Command) (x w : ℕ) → written u p c x w .unpaged .cml ≡ cond (clearsAll c) 0 (u .cml)
 unfolding written settledEffect
 written-cml u p SelectPage x w = refl
 written-cml u p Operation x w = refl

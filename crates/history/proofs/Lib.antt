@@ -12,3 +12,5 @@ pub mod Cml
 pub mod ValidPage
 pub mod Valid
 pub mod StatusWords
+pub mod Bits
+pub mod Alert
