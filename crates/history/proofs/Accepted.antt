@@ -1,8 +1,8 @@
 -- Which writes get answer 0.
 -- Assumes nothing.
-use Prim.Native.Nat.{ℕ, _+_, _-_, _<_, _≤_}
-use mathlib.Core.Path.{_≡_, refl, sym, _∙_}
-use mathlib.Core.Logic.{_⊎_, inl, inr, ⊎-elim, _↔_}
+use Prim.Native.Nat.{ℕ, _+_, _-_, _≤_}
+use mathlib.Core.Path.{_≡_, refl}
+use mathlib.Core.Logic.{_⊎_, inl, inr, ⊎-elim}
 use mathlib.Core.Bool.{Bool, true, false, cond}
 use mathlib.Core.List.{List}
 use native.Mathlib.Omega.{arith}
@@ -11,11 +11,10 @@ use lib.Dec.{ltb, eqb}
 use borrow.Author.Tests.{ltb-false, le-ltb, eqb-true, eqb-false, eq-eqb, ne-eqb}
 use Rattle.laws.proofs.Branches.{either}
 use Rattle.pec.specs.Pec.{pec}
-use Rattle.command.specs.declared.table.Entry.{Entry}
 use Rattle.command.specs.Table.{lookup}
 use Rattle.command.specs.Meaning.{commandOf}
 use Rattle.transaction.specs.Write.{permitted, validData, dataAnswer, lengthAnswer, codeAnswer, addressedAnswer, writeAnswer, checkRight}
-use Rattle.history.specs.Accepted.{codeOf, RightPec, WellFormed, Acceptable, Accepted}
+use Rattle.history.specs.Accepted.{codeOf, RightPec, Acceptable, Accepted}
 
 -- a choice that comes to 0 though one side does not
 only-yes : (b : Bool) (x y : ℕ) → (y ≡ 0 → ⊥) → cond b x y ≡ 0 → (b ≡ true) × (x ≡ 0)
@@ -82,8 +81,14 @@ module _ (protect : ℕ) (s : List ℕ) where
       (⊎-elim
       (λ (e : length s ≡ 2 + n). rw (le-ltb (length s - 2) n (omega arith), eq-eqb (length s - 2) n (omega arith), a .allowed, a .valid))
       (λ (e : (length s ≡ 2 + n + 1) × RightPec s). let l = e .0 in
-      rw (le-ltb (length s - 2) n (omega arith), ne-eqb (length s - 2) n (λ z. omega arith), eq-eqb (length s - 2 - n) 1 (omega arith),
-          eq-eqb (pec (take (length s - 1) s)) (getD s (length s - 1) 0) (e .1), a .allowed, a .valid))
+      rw (
+        le-ltb (length s - 2) n (omega arith),
+        ne-eqb (length s - 2) n (λ z. omega arith),
+        eq-eqb (length s - 2 - n) 1 (omega arith),
+        eq-eqb (pec (take (length s - 1) s)) (getD s (length s - 1) 0) (e .1),
+        a .allowed,
+        a .valid,
+      ))
       (f .data-bytes))
 
 pub accepted : Accepted

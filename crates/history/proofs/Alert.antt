@@ -1,17 +1,15 @@
 -- The alert: it rises with a bit, follows the bits after a clearing, and goes down by an answered alert response.
 -- Assumes nothing.
 use Prim.Native.Nat.{ℕ, _<_}
-use mathlib.Core.Path.{_≡_, refl, sym, ap, ap₂, _∙_}
+use mathlib.Core.Path.{_≡_, refl, sym, ap, _∙_}
 use mathlib.Core.Logic.{_⊎_, inl, inr, _↔_}
-use mathlib.Core.Bool.{Bool, true, false, cond, not, _&&_, _||_, and-false, or-false, or-true, and-eq-true-iff, false≢true}
+use mathlib.Core.Bool.{true, false, _||_, and-false, or-false, or-true, and-eq-true-iff, false≢true}
 use mathlib.Core.List.{List}
 use native.Mathlib.Omega.{arith}
 use lib.Dec.{eqb}
-use lib.Bits.{bitOr}
-use lib.ListN.{length, getD, set}
+use lib.ListN.{getD, set}
 use lib.Seq.{set-getD}
-use borrow.Author.Tests.{eqb-true, eqb-false, eq-eqb, ne-eqb}
-use Rattle.laws.specs.Bits.{bit}
+use borrow.Author.Tests.{eqb-true, eqb-false, eq-eqb}
 use Rattle.laws.specs.Lists.{anyOf}
 use Rattle.laws.proofs.Branches.{either}
 use Rattle.laws.proofs.Lists.{any-at, any-found as any-page}
@@ -24,20 +22,20 @@ use Rattle.page.specs.Page.{noPage}
 use Rattle.page.specs.Status.{any, anyStatus, gains, risen}
 use Rattle.transaction.specs.declared.Unpaged.{Unpaged}
 use Rattle.transaction.specs.declared.Effect.{Effect}
-use Rattle.transaction.specs.Unpaged.{cmlBits, refused}
+use Rattle.transaction.specs.Unpaged.{refused}
 use Rattle.transaction.specs.Write.{settledEffect, written, wordOf}
 use Rattle.transaction.specs.Events.{measuredEffect, withEnergy, alertAnswered}
 use Rattle.device.specs.declared.Device.{Device}
-use Rattle.device.specs.Device.{device, deviceValid, clearing, alertOfBits, clearedAlert}
-use Rattle.device.specs.Step.{Call, write, read, measure, sample, alertResponse, step, refusedDevice, readDone, sampleDone, sampledDone, alertDone, alertAnsweredDevice, alertAnswerOf}
-use Rattle.history.specs.Run.{next, answer, Whole, pageOf, statusBit, cmlBit}
+use Rattle.device.specs.Device.{device, deviceValid, clearing, alertOfBits}
+use Rattle.device.specs.Step.{Call, write, read, measure, sample, alertResponse, step, refusedDevice, readDone, sampleDone, alertDone, alertAnsweredDevice, alertAnswerOf}
+use Rattle.history.specs.Run.{next, answer, Whole, pageOf, statusBit}
 use Rattle.history.specs.Refusals.{Refused}
 use Rattle.history.specs.Clearing.{acceptedWrite, clearingCall}
 use Rattle.history.specs.Accepted.{codeOf}
 use Rattle.history.specs.Alert.{Turned, Stands, answeredAlert, AlertRises, AlertCleared, AlertAnswered}
 use Rattle.history.proofs.Codes.{clearsAll, clearing-code}
 use Rattle.history.proofs.Refusals.{refused-call}
-use Rattle.history.proofs.Outcomes.{Wrote, wrote, effectOf, no-clearing, by-clearing, was-measured, measuredOf, sample-after}
+use Rattle.history.proofs.Outcomes.{wrote, effectOf, no-clearing, by-clearing, was-measured, measuredOf, sample-after}
 use Rattle.history.proofs.PageAfter.{set-here, set-there}
 use Rattle.history.proofs.Cml.{written-cml}
 use Rattle.history.proofs.Runs.{same-length}
@@ -76,7 +74,7 @@ module _ (d e : Device) (whole : Whole d) (r : Raised d e) where
           let now : pageOf e i ≡ r .page = set-here d e (r .place) (r .page) i (r .pages) (omega arith) same in
           r .alert
           ∙ rw (risen-made (pageOf d (r .place)) (r .page) j k hj (rw same at old) (rw now at new))
-            (or-true (d .unpaged .alert || gains (d .unpaged .cml) (e .unpaged .cml)))
+          (or-true (d .unpaged .alert || gains (d .unpaged .cml) (e .unpaged .cml)))
 
       there : eqb i (r .place) ≡ false → e .unpaged .alert ≡ true
       there n =

@@ -5,7 +5,6 @@ use mathlib.Core.Path.{_≡_, refl, sym, ap, _∙_}
 use mathlib.Core.Bool.{Bool, true, false, cond, not, _&&_, _||_, and-true, and-false, or-false, false≢true}
 use mathlib.Core.List.{List}
 use lib.Dec.{eqb}
-use lib.Bits.{bitOr}
 use lib.ListN.{getD, set}
 use borrow.Author.Tests.{eqb-true, eqb-false, eq-eqb}
 use Rattle.laws.specs.Bits.{bit}
@@ -16,7 +15,6 @@ use Rattle.command.specs.declared.meaning.Command.the-variants.{SelectPage, Ope
 use Rattle.command.specs.Meaning.{commandOf}
 use Rattle.page.specs.declared.Page.{Page}
 use Rattle.transaction.specs.declared.Unpaged.{Unpaged}
-use Rattle.transaction.specs.declared.Effect.{Effect}
 use Rattle.transaction.specs.Unpaged.{cmlBits, refused}
 use Rattle.transaction.specs.Write.{written, wordOf, settledEffect}
 use Rattle.transaction.specs.Events.{measuredEffect, withEnergy, alertAnswered}
@@ -87,12 +85,12 @@ module _ (d : Device) (k : ℕ) where
       let code = codeOf s in
       let e = effectOf d s in
       let clears : clearsCml d (write s) k ≡ clearsAll (commandOf code) =
-        rw (eq-eqb (answer d (write s)) 0 z) (sym (clearing-code code)) in
+      rw (eq-eqb (answer d (write s)) 0 z) (sym (clearing-code code)) in
       spares (write s) z
       (ap (λ (y : Device). cmlBit y k) (wrote d s z .after)
       ∙ ap (λ (y : ℕ). bit y k)
-          (put-cml (e .unpaged) (set (d .pages) m (e .page)) code
-          ∙ written-cml (d .unpaged) (pageOf d m) (commandOf code) x (wordOf x (getD s 3 0)))
+      (put-cml (e .unpaged) (set (d .pages) m (e .page)) code
+      ∙ written-cml (d .unpaged) (pageOf d m) (commandOf code) x (wordOf x (getD s 3 0)))
       ∙ spared-bit (clearsAll (commandOf code)) (d .unpaged .cml) k ∙ ap (λ (b : Bool). cmlBit d k && not b) (sym clears))
 
   measured-bit : (page quantity word : ℕ) → answer d (measure page quantity word) ≡ 0 → Claim (measure page quantity word)

@@ -1,8 +1,8 @@
 -- Which codes clear, which switch off, and that a response's number is below 6: what `commandOf` says of every code.
 -- Assumes nothing.
 use Prim.Native.Nat.{ℕ}
-use mathlib.Core.Path.{_≡_, refl, sym, _∙_}
-use mathlib.Core.Bool.{Bool, true, false, cond, _&&_, _||_}
+use mathlib.Core.Path.{_≡_}
+use mathlib.Core.Bool.{Bool, true, false, _||_}
 use lib.Dec.{ltb, eqb}
 use borrow.Author.Tests.{eqb-true}
 use Rattle.laws.proofs.Branches.{either, cond-same, cond-apply}
@@ -12,64 +12,34 @@ use Rattle.command.specs.Meaning.{commandOf, settingOf, faultOf, summaryOf, rea
 use Rattle.device.specs.Device.{clearing}
 use Rattle.history.specs.Tripping.{untripping}
 
--- an accepted write of the command clears,
-abbrev pub clearsAll : Command → Bool
-clearsAll SelectPage = false
-clearsAll Operation = false
-clearsAll ClearFaults = true
-clearsAll WriteProtect = false
-clearsAll Capability = false
-clearsAll VoutMode = false
-clearsAll VoutCommand = false
-clearsAll (Limit k) = false
-clearsAll (Response k) = false
-clearsAll StatusByte = false
-clearsAll StatusWord = false
-clearsAll (Status k) = false
-clearsAll StatusCml = false
-clearsAll ReadEin = false
-clearsAll (Reading q) = false
-clearsAll Revision = false
-clearsAll Absent = false
+-- of a write of the command with the data x: it clears; it untrips; if it is a response, its number is below 6
+abbrev traits : Command → ℕ → Bool × Bool × Bool
+traits SelectPage x = (false, false, true)
+traits Operation x = (false, eqb x 0x00 || eqb x 0x40, true)
+traits ClearFaults x = (true, false, true)
+traits WriteProtect x = (false, false, true)
+traits Capability x = (false, false, true)
+traits VoutMode x = (false, false, true)
+traits VoutCommand x = (false, false, true)
+traits (Limit k) x = (false, false, true)
+traits (Response k) x = (false, false, ltb k 6)
+traits StatusByte x = (false, false, true)
+traits StatusWord x = (false, false, true)
+traits (Status k) x = (false, false, true)
+traits StatusCml x = (false, false, true)
+traits ReadEin x = (false, false, true)
+traits (Reading q) x = (false, false, true)
+traits Revision x = (false, false, true)
+traits Absent x = (false, false, true)
 
--- or, with the data x, untrips
+abbrev pub clearsAll : Command → Bool
+clearsAll c = traits c 0 .0
+
 abbrev pub switchesOff : Command → ℕ → Bool
-switchesOff SelectPage x = false
-switchesOff Operation x = eqb x 0x00 || eqb x 0x40
-switchesOff ClearFaults x = false
-switchesOff WriteProtect x = false
-switchesOff Capability x = false
-switchesOff VoutMode x = false
-switchesOff VoutCommand x = false
-switchesOff (Limit k) x = false
-switchesOff (Response k) x = false
-switchesOff StatusByte x = false
-switchesOff StatusWord x = false
-switchesOff (Status k) x = false
-switchesOff StatusCml x = false
-switchesOff ReadEin x = false
-switchesOff (Reading q) x = false
-switchesOff Revision x = false
-switchesOff Absent x = false
+switchesOff c x = traits c x .1
 
 abbrev pub responseBelow6 : Command → Bool
-responseBelow6 SelectPage = true
-responseBelow6 Operation = true
-responseBelow6 ClearFaults = true
-responseBelow6 WriteProtect = true
-responseBelow6 Capability = true
-responseBelow6 VoutMode = true
-responseBelow6 VoutCommand = true
-responseBelow6 (Limit k) = true
-responseBelow6 (Response k) = ltb k 6
-responseBelow6 StatusByte = true
-responseBelow6 StatusWord = true
-responseBelow6 (Status k) = true
-responseBelow6 StatusCml = true
-responseBelow6 ReadEin = true
-responseBelow6 (Reading q) = true
-responseBelow6 Revision = true
-responseBelow6 Absent = true
+responseBelow6 c = traits c 0 .2
 
 pub clearing-code : (code : ℕ) → clearsAll (commandOf code) ≡ clearing code
 unfolding commandOf settingOf faultOf summaryOf readingOf

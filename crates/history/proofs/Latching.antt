@@ -1,24 +1,21 @@
 -- Bits latch: each present cause's bit is 1 after every call, and a bit falls by a listed clearing alone.
 -- Assumes nothing.
 use Prim.Native.Nat.{ℕ, _<_}
-use mathlib.Core.Path.{_≡_, refl, sym, ap, ap₂, _∙_}
+use mathlib.Core.Path.{_≡_, sym, ap, ap₂, _∙_}
 use mathlib.Core.Bool.{Bool, true, false, not, _&&_, _||_, and-true, or-false, or-true, false≢true}
-use mathlib.Core.List.{List}
 use lib.Dec.{ltb, ltb→lt}
 use Rattle.laws.proofs.Branches.{either}
 use Rattle.laws.proofs.Every.{each}
 use Rattle.page.specs.declared.Page.{Page}
 use Rattle.page.specs.Causes.{settled}
-use Rattle.device.specs.declared.Device.{Device}
-use Rattle.device.specs.Step.{Call}
-use Rattle.history.specs.Run.{next, reached, Whole, pageOf, statusBit}
+use Rattle.history.specs.Run.{next, reached, pageOf, statusBit}
 use Rattle.history.specs.Clearing.{clears, Falls}
 use Rattle.history.specs.Tripping.{untrips}
 use Rattle.history.specs.Latching.{causeBits, registerOf, bitOf, caused, Latched, Latches}
 use Rattle.history.proofs.Settled.{UpToDate, settled-bit, settled-caused, cause-bit}
 use Rattle.history.proofs.PageLeft.{PageLeft, kept, touched, Changed}
 use Rattle.history.proofs.PageAfter.{page-after}
-use Rattle.history.proofs.Runs.{Current, current}
+use Rattle.history.proofs.Runs.{current}
 
 register-lt : (n : ℕ) → n < 6 → registerOf n < 4
 unfolding registerOf causeBits

@@ -1,13 +1,13 @@
 -- The calls that get answer 0, by their kinds: what is known of the call, and the state that it leaves.
 -- Assumes nothing.
 use Prim.Native.Nat.{ℕ, _%_, _<_}
-use mathlib.Core.Path.{_≡_, refl, sym, ap, _∙_}
-use mathlib.Core.Bool.{Bool, true, false, cond, not, _&&_, and-eq-true-iff}
+use mathlib.Core.Path.{_≡_, sym, ap, _∙_}
+use mathlib.Core.Bool.{true, false, _&&_, and-eq-true-iff}
 use mathlib.Core.List.{List}
 use native.Mathlib.Omega.{arith}
-use lib.Dec.{ltb, eqb}
+use lib.Dec.{ltb}
 use lib.ListN.{getD, set}
-use borrow.Author.Tests.{ltb-true, ltb-false, eq-eqb, ne-eqb}
+use borrow.Author.Tests.{ltb-true, ltb-false, eq-eqb}
 use Rattle.laws.specs.Lists.{allOf}
 use Rattle.laws.proofs.Branches.{either}
 use Rattle.account.specs.Account.{accountValid, sampled}
@@ -22,7 +22,7 @@ use Rattle.transaction.specs.Write.{writeAnswer, wordOf, written}
 use Rattle.transaction.specs.Events.{measureAnswer, measuredEffect, withEnergy}
 use Rattle.device.specs.declared.Device.{Device}
 use Rattle.device.specs.Device.{device, deviceValid, pageAt, putPage, clearing, alertOfBits, clearedAlert}
-use Rattle.device.specs.Step.{Call, write, read, measure, sample, alertResponse, step, selected, accepted, writeDone, transacted, afterWrite, measuredDevice, measureDone, measuredDone, afterMeasure, sampleDone, sampledDone}
+use Rattle.device.specs.Step.{write, measure, sample, step, accepted, writeDone, transacted, afterWrite, measuredDevice, measureDone, measuredDone, afterMeasure, sampleDone, sampledDone}
 use Rattle.history.specs.Run.{next, answer, pageOf}
 use Rattle.history.specs.Accepted.{codeOf, Acceptable, TakesEffect}
 use Rattle.history.proofs.Accepted.{acceptable, accepting}
@@ -63,7 +63,7 @@ pub record Wrote (d : Device) (s : List ℕ) : Type 0 where
   pub valid : Valid d
   pub good : Acceptable (d .unpaged .protect) s
   pub after :
-    next d (write s) ≡ clearedAlert (effectOf d s .unpaged) (set (d .pages) (d .unpaged .page) (effectOf d s .page)) (codeOf s)
+      next d (write s) ≡ clearedAlert (effectOf d s .unpaged) (set (d .pages) (d .unpaged .page) (effectOf d s .page)) (codeOf s)
 
 module _ (d : Device) (s : List ℕ) where
   write-answer : deviceValid d ≡ true → answer d (write s) ≡ writeAnswer (d .unpaged .protect) s
@@ -81,7 +81,7 @@ module _ (d : Device) (s : List ℕ) where
 
   accepted-parts : d .unpaged .page < 8
       → accepted d (codeOf s) (getD s 2 0) (getD s 3 0)
-        ≡ clearedAlert (effectOf d s .unpaged) (set (d .pages) (d .unpaged .page) (effectOf d s .page)) (codeOf s)
+      ≡ clearedAlert (effectOf d s .unpaged) (set (d .pages) (d .unpaged .page) (effectOf d s .page)) (codeOf s)
   unfolding accepted
   accepted-parts h =
       rw (page-at (d .pages) (d .unpaged .page) h, page-put (d .pages) (d .unpaged .page) (effectOf d s .page) h)

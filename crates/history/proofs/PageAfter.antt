@@ -2,7 +2,7 @@
 -- Assumes nothing.
 use Prim.Native.Nat.{ℕ, _<_}
 use mathlib.Core.Path.{_≡_, refl, sym, ap, _∙_}
-use mathlib.Core.Bool.{Bool, true, false, not, _&&_, and-false, and-true}
+use mathlib.Core.Bool.{Bool, false, _&&_, and-false, and-true}
 use mathlib.Core.List.{List}
 use native.Mathlib.Omega.{arith}
 use lib.Dec.{eqb}
@@ -13,7 +13,6 @@ use Rattle.laws.proofs.Branches.{either}
 use Rattle.command.specs.Meaning.{commandOf}
 use Rattle.page.specs.declared.Page.{Page}
 use Rattle.page.specs.Page.{noPage}
-use Rattle.transaction.specs.declared.Effect.{Effect}
 use Rattle.transaction.specs.Write.{wordOf}
 use Rattle.device.specs.declared.Device.{Device}
 use Rattle.device.specs.Device.{clearing}
@@ -25,8 +24,8 @@ use Rattle.history.specs.Tripping.{untripping, untrips}
 use Rattle.history.specs.Accepted.{codeOf}
 use Rattle.history.proofs.Refusals.{refused-call, pages-stay}
 use Rattle.history.proofs.Codes.{clearsAll, switchesOff, clearing-code, untripping-code}
-use Rattle.history.proofs.PageLeft.{PageLeft, kept, touched, same-left, written-page, measured-page}
-use Rattle.history.proofs.Outcomes.{Valid, Wrote, wrote, effectOf, put-pages, Measured, was-measured, measuredOf}
+use Rattle.history.proofs.PageLeft.{PageLeft, kept, same-left, written-page, measured-page}
+use Rattle.history.proofs.Outcomes.{wrote, effectOf, put-pages, was-measured, measuredOf}
 
 -- ---- which calls clear and untrip
 
@@ -90,7 +89,7 @@ module _ (d : Device) (i : ℕ) (whole : Whole d) where
       let e = effectOf d s in
       let small = w .valid .page in
       let pages : next d (write s) .pages ≡ set (d .pages) m (e .page) =
-        ap (λ (x : Device). x .pages) (w .after) ∙ put-pages (e .unpaged) (set (d .pages) m (e .page)) code in
+      ap (λ (x : Device). x .pages) (w .after) ∙ put-pages (e .unpaged) (set (d .pages) m (e .page)) code in
       either (eqb i m)
       (λ y. let here = eqb-true i m y in
       same-left (pageOf d m) (pageOf d i) (e .page) (pageOf (next d (write s)) i) (λ j k. clearsAll (commandOf code)) (clears d (write s) i)

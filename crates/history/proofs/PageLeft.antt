@@ -2,7 +2,6 @@
 -- Assumes nothing.
 use Prim.Native.Nat.{ℕ, zero, suc}
 use mathlib.Core.Path.{_≡_, refl, sym, ap, ap₂, _∙_}
-use mathlib.Core.Logic.{_⊎_, inl, inr}
 use mathlib.Core.Bool.{Bool, true, false, not, _&&_, _||_, and-true, and-false}
 use mathlib.Core.List.{List, [], _∷_}
 use lib.Dec.{eqb}
@@ -16,7 +15,6 @@ use Rattle.page.specs.declared.Page.{Page}
 use Rattle.page.specs.Causes.{settled}
 use Rattle.page.specs.Settings.{operated, commanded, limited, responded, measured, cleared}
 use Rattle.transaction.specs.declared.Unpaged.{Unpaged}
-use Rattle.transaction.specs.declared.Effect.{Effect}
 use Rattle.transaction.specs.Write.{settledEffect, written}
 use Rattle.transaction.specs.Events.{measuredEffect}
 use Rattle.history.specs.Run.{statusBit}

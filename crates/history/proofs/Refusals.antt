@@ -2,21 +2,20 @@
 -- Assumes nothing.
 use Prim.Native.Nat.{ℕ}
 use mathlib.Core.Path.{_≡_, refl, sym, ap, _∙_}
-use mathlib.Core.Bool.{Bool, true, false, cond, not, _&&_, _||_, or-false, and-true, false≢true}
+use mathlib.Core.Bool.{or-false, and-true, false≢true}
 use mathlib.Core.List.{List}
-use lib.Dec.{ltb, eqb}
+use lib.Dec.{ltb}
 use lib.Bits.{bitOr, or-zero-r, or-self}
 use borrow.Author.Tests.{eq-eqb, ne-eqb}
 use Rattle.laws.proofs.Branches.{either, cond-same, cond-apply}
 use Rattle.account.specs.Account.{sampled}
-use Rattle.page.specs.declared.Page.{Page}
 use Rattle.transaction.specs.declared.Unpaged.{Unpaged}
 use Rattle.transaction.specs.Unpaged.{cmlBits, refused}
 use Rattle.transaction.specs.Write.{writeAnswer}
 use Rattle.transaction.specs.Events.{measureAnswer, withEnergy, alertAnswer, alertAnswered}
 use Rattle.device.specs.declared.Device.{Device}
 use Rattle.device.specs.Device.{deviceValid}
-use Rattle.device.specs.Step.{Call, write, read, measure, sample, alertResponse, step, refusedDevice, writeDone, transacted, afterWrite, readDone, measureDone, measuredDone, afterMeasure, sampleDone, sampledDone, alertDone, alertAnsweredDevice, alertAnswerOf}
+use Rattle.device.specs.Step.{write, read, measure, sample, alertResponse, step, refusedDevice, writeDone, transacted, afterWrite, readDone, measureDone, measuredDone, afterMeasure, sampleDone, sampledDone, alertDone, alertAnsweredDevice, alertAnswerOf}
 use Rattle.history.specs.Run.{next, answer}
 use Rattle.history.specs.Refusals.{Refused, Unchanged, touchesNoPage, PagesStay}
 

@@ -5,17 +5,17 @@ use mathlib.Core.Path.{_≡_, refl, sym, ap, _∙_, subst}
 use mathlib.Core.Bool.{Bool}
 use mathlib.Core.List.{List, [], _∷_}
 use lib.Dec.{eqb}
-use lib.ListN.{length, getD, set, length-set, replicate}
+use lib.ListN.{length, set, length-set}
 use borrow.Author.Tests.{eqb-true, eqb-false}
 use Rattle.laws.proofs.Branches.{either}
 use Rattle.laws.proofs.Lists.{replicate-each}
 use Rattle.page.specs.declared.Page.{Page}
 use Rattle.page.specs.Page.{powerOnPage, noPage}
-use Rattle.transaction.specs.declared.Effect.{Effect}
 use Rattle.device.specs.declared.Device.{Device}
 use Rattle.device.specs.Device.{powerOn}
 use Rattle.device.specs.Step.{Call, write, read, measure, sample, alertResponse, refusedDevice}
 use Rattle.history.specs.Run.{next, answer, run, reached, Whole, pageOf}
+use Rattle.history.specs.Valid.{ReachedWhole}
 use Rattle.history.specs.Refusals.{Refused, touchesNoPage, PagesStay}
 use Rattle.history.specs.Accepted.{codeOf}
 use Rattle.history.specs.Clearing.{clears}
@@ -75,3 +75,7 @@ powered = record { whole = refl; page = λ i. replicate-each noPage UpToDate 8 p
 
 pub current : (cs : List Call) → Current (reached cs)
 current cs = kept-in-runs Current current-after powerOn cs powered
+
+pub reached-whole : ReachedWhole
+unfolding ReachedWhole
+reached-whole cs = current cs .whole

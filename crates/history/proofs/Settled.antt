@@ -2,17 +2,16 @@
 -- Assumes nothing.
 use Prim.Native.Nat.{ℕ, zero, suc, _^_, _<_}
 use mathlib.Core.Path.{_≡_, refl, sym, ap, _∙_}
-use mathlib.Core.Bool.{Bool, true, false, cond, not, _&&_, _||_, and-false, or-false, or-true, or-assoc, false≢true}
+use mathlib.Core.Bool.{Bool, true, false, _&&_, _||_, and-false, or-false, or-true, or-assoc, false≢true}
 use mathlib.Core.List.{List, [], _∷_}
 use native.Mathlib.Omega.{arith}
 use lib.Dec.{eqb}
 use lib.Bits.{bitOr}
-use lib.ListN.{length, getD}
+use lib.ListN.{getD}
 use borrow.Author.Tests.{eq-eqb}
 use Rattle.laws.specs.Bits.{bit}
 use Rattle.laws.specs.Lists.{anyOf}
 use Rattle.laws.proofs.Bits.{or-bit, cond-bit, power-bit}
-use Rattle.laws.proofs.Branches.{and-yes}
 use Rattle.laws.proofs.Every.{agree}
 use Rattle.laws.proofs.Lists.{any-at}
 use Rattle.page.specs.declared.Page.{Page}
@@ -20,7 +19,7 @@ use Rattle.page.specs.Page.{powerOnPage, noPage}
 use Rattle.page.specs.Causes.{presentCauses, present, weigh, raised, staysOff, settled}
 use Rattle.history.specs.Run.{statusBit}
 use Rattle.history.specs.Latching.{causeBits, causes, registerOf, bitOf, caused}
-use Rattle.history.specs.Tripping.{stayOff}
+use Rattle.history.specs.Tripping.{stayOff, staysOffBy, shutDown}
 
 -- the bit of weight 2 ^ m, where b is set
 pub weighed : (b : Bool) (m k : ℕ) → bit (weigh b (2 ^ m)) k ≡ (b && eqb m k)
@@ -56,45 +55,45 @@ pub settled-caused : (q : Page) (j k : ℕ) → caused (settled q) j k ≡ cause
 unfolding caused
 settled-caused q j k = ap (λ (c : List Bool). anyOf (λ n. getD c n false && (eqb (registerOf n) j && eqb (bitOf n) k)) causes) (settled-causes q)
 
+numbered : (n : ℕ) → n < 6 → getD causes n 0 ≡ n
+numbered n h = agree (λ m. getD causes m 0) (λ m. m) 6 tt n h
+
 -- a present cause stands in the table
 pub cause-bit : (p : Page) (n : ℕ) → n < 6 → present p n ≡ true → caused p (registerOf n) (bitOf n) ≡ true
 unfolding caused
 cause-bit p n h e =
     let test : ℕ → Bool = λ (m : ℕ). present p m && (eqb (registerOf m) (registerOf n) && eqb (bitOf m) (bitOf n)) in
-    let here : getD causes n 0 ≡ n = agree (λ m. getD causes m 0) (λ m. m) 6 tt n h in
-    any-at 0 test causes n h (ap test here ∙ rw (e, eq-eqb (registerOf n) (registerOf n) refl, eq-eqb (bitOf n) (bitOf n) refl))
+    any-at 0 test causes n h (ap test (numbered n h) ∙ rw (e, eq-eqb (registerOf n) (registerOf n) refl, eq-eqb (bitOf n) (bitOf n) refl))
 
-pub stays-off : (p : Page) (n : ℕ) → n < 6 → present p n ≡ true → getD (p .responses) n 0 ≡ stayOff n
-    → staysOff (presentCauses p) (p .responses) ≡ true
-unfolding staysOff stayOff
-stays-off p zero h e r = simp (e, eq-eqb (getD (p .responses) 0 0) 0x80 r)
-stays-off p (suc zero) h e r = simp (e, eq-eqb (getD (p .responses) 1 0) 0xC0 r, or-true)
-stays-off p (suc (suc zero)) h e r = simp (e, eq-eqb (getD (p .responses) 2 0) 0x80 r, or-true)
-stays-off p (suc (suc (suc zero))) h e r = simp (e, eq-eqb (getD (p .responses) 3 0) 0x80 r, or-true)
-stays-off p (suc (suc (suc (suc zero)))) h e r = simp (e, eq-eqb (getD (p .responses) 4 0) 0x80 r, or-true)
-stays-off p (suc (suc (suc (suc (suc zero))))) h e r = simp (e, eq-eqb (getD (p .responses) 5 0) 0x80 r, or-true)
-stays-off p (suc (suc (suc (suc (suc (suc n)))))) h e r = absurd (omega arith)
+-- the page's rule for the trip asks the same of each cause in turn
+shut-down : (p : Page) → staysOff (presentCauses p) (p .responses) ≡ shutDown p
+unfolding staysOff shutDown stayOff
+shut-down p = simp (or-assoc, or-false)
+
+pub cause-shuts : (p : Page) (n : ℕ) → n < 6 → present p n ≡ true → staysOffBy p n ≡ true → shutDown p ≡ true
+unfolding shutDown
+cause-shuts p n h e r =
+    let test : ℕ → Bool = λ (m : ℕ). present p m && staysOffBy p m in
+    any-at 0 test causes n h (ap test (numbered n h) ∙ rw (e, r))
 
 -- what every page of a run has: each present cause's bit is 1, and a present cause that shuts down has tripped it
 pub record UpToDate (p : Page) : Type 0 where
   pub latched : (j k : ℕ) → j < 4 → caused p j k ≡ true → statusBit p j k ≡ true
-  pub tripped : staysOff (presentCauses p) (p .responses) ≡ true → p .tripped ≡ true
+  pub tripped : shutDown p ≡ true → p .tripped ≡ true
 
-settled-tripped : (q : Page) → staysOff (presentCauses (settled q)) (settled q .responses) ≡ true → settled q .tripped ≡ true
+pub settled-trip : (q : Page) → settled q .tripped ≡ (q .tripped || shutDown (settled q))
 unfolding settled presentCauses
-settled-tripped q e =
-    let shut : staysOff (presentCauses q) (q .responses) ≡ true = e in
-    rw shut (or-true (q .tripped))
+settled-trip q = ap (λ (b : Bool). q .tripped || b) (shut-down (settled q))
 
 pub settled-current : (q : Page) → UpToDate (settled q)
 settled-current q = record {
   latched = λ j k h e. settled-bit q j k h ∙ rw (sym (settled-caused q j k) ∙ e) (or-true (statusBit q j k));
-  tripped = settled-tripped q;
+  tripped = λ e. settled-trip q ∙ rw e (or-true (q .tripped));
 }
 
 -- a page without measurements has no present cause
 quiet : (p : Page) → presentCauses p ≡ false ∷ false ∷ false ∷ false ∷ false ∷ false ∷ [] → UpToDate p
-unfolding caused staysOff
+unfolding caused shutDown
 quiet p e = record {
   latched = λ j k h c. absurd (false≢true (rw e at c));
   tripped = λ c. absurd (false≢true (rw e at c));

@@ -1,25 +1,21 @@
 -- Answer 15 goes to the states that are not valid, and a run from power-on has none.
 -- Assumes nothing.
 use Prim.Native.Nat.{ℕ}
-use mathlib.Core.Path.{_≡_, refl, sym, ap, _∙_, subst}
-use mathlib.Core.Bool.{Bool, true, false, cond, not, _&&_, and-eq-true-iff, false≢true}
+use mathlib.Core.Path.{_≡_, refl, sym, ap, _∙_}
+use mathlib.Core.Bool.{Bool, true, false, not, and-eq-true-iff, false≢true}
 use mathlib.Core.List.{List}
 use lib.Dec.{ltb, eqb}
-use lib.ListN.{getD, set, replicate}
+use lib.ListN.{getD, set}
 use borrow.Author.Tests.{eqb-true, eqb-false, eq-eqb, lt-ltb}
 use Rattle.laws.specs.Lists.{allOf}
 use Rattle.laws.proofs.Branches.{either, and-yes, cond-same, cond-apply}
 use Rattle.laws.proofs.Lists.{all-at, all-set}
 use Rattle.account.specs.declared.Account.{Account}
-use Rattle.account.specs.declared.Sampled.{Sampled}
 use Rattle.account.specs.Account.{accountValid, sampled}
 use Rattle.account.proofs.Laws.{sampled-valid}
-use Rattle.command.specs.Table.{lookup}
 use Rattle.command.specs.Meaning.{commandOf}
-use Rattle.page.specs.declared.Page.{Page}
 use Rattle.page.specs.Page.{powerOnPage, noPage}
 use Rattle.page.specs.Settings.{validOperation, validResponse, pageValid}
-use Rattle.transaction.specs.declared.Unpaged.{Unpaged}
 use Rattle.transaction.specs.declared.Effect.{Effect}
 use Rattle.transaction.specs.Unpaged.{powerOnUnpaged, validProtect, unpagedValid, refused}
 use Rattle.transaction.specs.Write.{dataAnswer, lengthAnswer, codeAnswer, addressedAnswer, writeAnswer, wordOf}
@@ -30,11 +26,11 @@ use Rattle.device.specs.Device.{device, powerOn, deviceValid, clearedAlert}
 use Rattle.device.specs.Step.{Call, write, read, measure, sample, alertResponse, step, refusedDevice, writeDone, transacted, readDone, readAnswered, measureDone, measuredDone, sampleDone, sampledDone, alertDone, alertAnswerOf, alertAnsweredDevice}
 use Rattle.history.specs.Run.{next, answer, reached, pageOf}
 use Rattle.history.specs.Refusals.{Refused}
-use Rattle.history.specs.Accepted.{codeOf, Acceptable}
+use Rattle.history.specs.Accepted.{codeOf}
 use Rattle.history.specs.Valid.{Fifteen, ReachedValid, NoFifteen}
 use Rattle.history.proofs.Codes.{response-code}
 use Rattle.history.proofs.Refusals.{refused-call}
-use Rattle.history.proofs.Outcomes.{Valid, valid-parts, Wrote, wrote, effectOf, put-pages, put-valid, Measured, was-measured, measuredOf, sample-after}
+use Rattle.history.proofs.Outcomes.{valid-parts, wrote, effectOf, put-pages, put-valid, was-measured, measuredOf, sample-after}
 use Rattle.history.proofs.ValidPage.{EffectValid, written-valid, measured-valid}
 use Rattle.history.proofs.Runs.{kept-in-runs}
 

@@ -1,14 +1,12 @@
 -- Accepted writes and measurements keep the unpaged part and the page valid.
 -- Assumes nothing.
 use Prim.Native.Nat.{ℕ, zero, suc, _%_, _<_}
-use mathlib.Core.Path.{_≡_, refl, sym, ap, _∙_}
-use mathlib.Core.Bool.{Bool, true, false, _&&_, and-eq-true-iff}
-use mathlib.Core.List.{List}
+use mathlib.Core.Path.{_≡_, refl, _∙_}
+use mathlib.Core.Bool.{Bool, true, _&&_, and-eq-true-iff}
 use native.Mathlib.Omega.{arith}
 use lib.Dec.{ltb}
-use lib.ListN.{getD, set}
-use borrow.Author.Tests.{ltb-true, lt-ltb}
-use Rattle.laws.proofs.Branches.{and-yes}
+use lib.ListN.{getD}
+use borrow.Author.Tests.{ltb-true}
 use Rattle.laws.proofs.Lists.{set-cases}
 use Rattle.account.specs.Account.{accountValid}
 use Rattle.command.specs.declared.meaning.Command.{Command}
@@ -73,7 +71,7 @@ module _ (p : Page) where
       (record {
         operation = old .operation;
         responses = λ k hk. set-cases 0 (λ (z : ℕ). validResponse k z ≡ true) (p .responses) (n % 6) x k (old .responses k hk)
-        (λ same. let m : k ≡ n = omega arith in rw m e);
+            (λ same. let m : k ≡ n = omega arith in rw m e);
       })
 
   -- what is neither OPERATION nor a response does not matter

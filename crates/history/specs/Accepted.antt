@@ -3,17 +3,16 @@
 use Prim.Native.Nat.{ℕ, _+_, _-_, _≤_}
 use mathlib.Core.Path.{_≡_}
 use mathlib.Core.Logic.{_⊎_, _↔_}
-use mathlib.Core.Bool.{Bool, true}
+use mathlib.Core.Bool.{true}
 use mathlib.Core.List.{List}
 use lib.ListN.{length, getD, take}
 use Rattle.pec.specs.Pec.{pec}
-use Rattle.command.specs.declared.table.Entry.{Entry}
 use Rattle.command.specs.Table.{lookup}
 use Rattle.command.specs.Meaning.{commandOf}
 use Rattle.transaction.specs.Write.{permitted, validData, writeAnswer}
 use Rattle.device.specs.declared.Device.{Device}
 use Rattle.device.specs.Device.{deviceValid}
-use Rattle.device.specs.Step.{Call, write, accepted}
+use Rattle.device.specs.Step.{write, accepted}
 use Rattle.history.specs.Run.{next, answer}
 
 abbrev pub codeOf : List ℕ → ℕ
@@ -44,4 +43,4 @@ unfoldable pub TakesEffect : Type 0
 TakesEffect =
     (d : Device) (s : List ℕ) → deviceValid d ≡ true
     → ((answer d (write s) ≡ 0) ↔ Acceptable (d .unpaged .protect) s)
-      × (Acceptable (d .unpaged .protect) s → next d (write s) ≡ accepted d (codeOf s) (getD s 2 0) (getD s 3 0))
+    × (Acceptable (d .unpaged .protect) s → next d (write s) ≡ accepted d (codeOf s) (getD s 2 0) (getD s 3 0))

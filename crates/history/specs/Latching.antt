@@ -2,7 +2,7 @@
 -- Assumes nothing.
 use Prim.Native.Nat.{ℕ, _-_, _<_}
 use mathlib.Core.Path.{_≡_}
-use mathlib.Core.Bool.{Bool, true, false, not, _&&_, _||_}
+use mathlib.Core.Bool.{Bool, true, not, _&&_, _||_}
 use mathlib.Core.List.{List, [], _∷_}
 use lib.ListN.{getD}
 use lib.Dec.{eqb}
@@ -55,7 +55,7 @@ unfoldable pub Latches : Type 0
 Latches =
     (cs : List Call) (c : Call) (i j k : ℕ) → i < 8 → j < 4
     → statusBit (pageOf (next (reached cs) c) i) j k
-      ≡ (statusBit (pageOf (reached cs) i) j k && not (clears (reached cs) c i j k) || caused (pageOf (next (reached cs) c) i) j k)
+    ≡ (statusBit (pageOf (reached cs) i) j k && not (clears (reached cs) c i j k) || caused (pageOf (next (reached cs) c) i) j k)
 
 unfoldable pub LatchesCml : Type 0
 LatchesCml =

@@ -1,10 +1,7 @@
 -- What a refusal leaves (document 01, 'Answer numbers'), and which calls touch no page.
 -- Assumes nothing.
-use Prim.Native.Nat.{ℕ}
 use mathlib.Core.Path.{_≡_}
 use mathlib.Core.Bool.{Bool, true, false}
-use mathlib.Core.List.{List}
-use Rattle.page.specs.declared.Page.{Page}
 use Rattle.transaction.specs.Unpaged.{cmlBits}
 use Rattle.device.specs.declared.Device.{Device}
 use Rattle.device.specs.Step.{Call, write, read, measure, sample, alertResponse, refusedDevice}

@@ -10,7 +10,7 @@ use Rattle.page.specs.declared.Page.{Page}
 use Rattle.page.specs.Page.{noPage}
 use Rattle.device.specs.declared.Device.{Device}
 use Rattle.device.specs.Device.{powerOn}
-use Rattle.device.specs.Step.{Call, Result, step}
+use Rattle.device.specs.Step.{Call, step}
 
 -- the state and the answer after one call
 abbrev pub next : Device → Call → Device

@@ -2,7 +2,7 @@
 -- Assumes nothing.
 use Prim.Native.Nat.{ℕ, _<_}
 use mathlib.Core.Path.{_≡_}
-use mathlib.Core.Bool.{Bool, true, false, not, _||_}
+use mathlib.Core.Bool.{Bool, false, not, _||_}
 use mathlib.Core.List.{List, [], _∷_}
 use Rattle.laws.specs.Bits.{bit}
 use Rattle.laws.specs.Lists.{anyOf, Bytes}
@@ -27,9 +27,9 @@ pub record LowByte (p : Page) (cml : ℕ) (x : ℕ) : Type 0 where
   pub bit2 : bit x 2 ≡ anyBit (temperature p)
   pub bit1 : bit x 1 ≡ anyBit cml
   pub bit0 :
-    bit x 0
-    ≡ (oneOf (vout p) (6 ∷ 5 ∷ 4 ∷ 3 ∷ 2 ∷ 1 ∷ 0 ∷ []) || oneOf (iout p) (5 ∷ 4 ∷ 3 ∷ 2 ∷ 1 ∷ 0 ∷ [])
-       || oneOf (input p) (7 ∷ 6 ∷ 5 ∷ 3 ∷ 2 ∷ 1 ∷ 0 ∷ []))
+      bit x 0
+      ≡ (oneOf (vout p) (6 ∷ 5 ∷ 4 ∷ 3 ∷ 2 ∷ 1 ∷ 0 ∷ []) || oneOf (iout p) (5 ∷ 4 ∷ 3 ∷ 2 ∷ 1 ∷ 0 ∷ [])
+      || oneOf (input p) (7 ∷ 6 ∷ 5 ∷ 3 ∷ 2 ∷ 1 ∷ 0 ∷ []))
 
 -- "high byte bit 7 any VOUT, 6 any IOUT, 5 any INPUT, 3 not supplying, others 0"
 pub record HighByte (p : Page) (x : ℕ) : Type 0 where
