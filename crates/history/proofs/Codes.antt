@@ -8,7 +8,7 @@ use borrow.Author.Tests.{eqb-true}
 use Rattle.laws.proofs.Branches.{either, cond-same, cond-apply}
 use Rattle.command.specs.declared.meaning.Command.{Command}
 use Rattle.command.specs.declared.meaning.Command.the-variants.{SelectPage, Operation, ClearFaults, WriteProtect, Capability, VoutMode, VoutCommand, Limit, Response, StatusByte, StatusWord, Status, StatusCml, ReadEin, Reading, Revision, Absent}
-use Rattle.command.specs.Meaning.{commandOf, settingOf, faultOf, summaryOf, readingOf}
+use Rattle.command.specs.Meaning.{commandOf, settingOf, faultOf, readingOf}
 use Rattle.device.specs.Device.{clearing}
 use Rattle.history.specs.Tripping.{untripping}
 
@@ -42,15 +42,15 @@ abbrev pub responseBelow6 : Command → Bool
 responseBelow6 c = traits c 0 .2
 
 pub clearing-code : (code : ℕ) → clearsAll (commandOf code) ≡ clearing code
-unfolding commandOf settingOf faultOf summaryOf readingOf
+unfolding commandOf settingOf faultOf readingOf
 clearing-code code =
     either (eqb code 0x03) (λ e. rw (eqb-true code 0x03 e)) (λ e. simp (e, cond-apply clearsAll, cond-same))
 
 pub untripping-code : (code x : ℕ) → switchesOff (commandOf code) x ≡ untripping code x
-unfolding commandOf settingOf faultOf summaryOf readingOf
+unfolding commandOf settingOf faultOf readingOf
 untripping-code code x =
     either (eqb code 0x01) (λ e. rw (eqb-true code 0x01 e)) (λ e. simp (e, cond-apply (λ c. switchesOff c x), cond-same))
 
 pub response-code : (code : ℕ) → responseBelow6 (commandOf code) ≡ true
-unfolding commandOf settingOf faultOf summaryOf readingOf
+unfolding commandOf settingOf faultOf readingOf
 response-code code = simp (cond-apply responseBelow6, cond-same)

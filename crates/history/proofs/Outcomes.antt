@@ -122,6 +122,13 @@ module _ (u : Unpaged) (ps : List Page) (code : ℕ) where
   unfolding alertOfBits unpagedValid
   put-valid = either (clearing code) (λ e. rw (by-clearing e)) (λ e. rw (no-clearing e))
 
+-- an accepted write changes the selected page alone
+pub written-pages : (d : Device) (s : List ℕ) → answer d (write s) ≡ 0
+    → next d (write s) .pages ≡ set (d .pages) (d .unpaged .page) (effectOf d s .page)
+written-pages d s z =
+    ap (λ (x : Device). x .pages) (wrote d s z .after)
+    ∙ put-pages (effectOf d s .unpaged) (set (d .pages) (d .unpaged .page) (effectOf d s .page)) (codeOf s)
+
 -- ---- measurements
 
 module _ (d : Device) (page quantity word : ℕ) where
@@ -163,6 +170,10 @@ module _ (d : Device) (page quantity word : ℕ) where
       let a = sym (measure-answer v) ∙ z in
       let h = measure-small a in
       record { valid = valid-parts d v; small = h; after = measure-after v a ∙ measured-parts h }
+
+  pub measured-pages : answer d (measure page quantity word) ≡ 0
+      → next d (measure page quantity word) .pages ≡ set (d .pages) page (measuredOf .page)
+  measured-pages z = ap (λ (x : Device). x .pages) (was-measured z .after)
 
 -- ---- samples: one that is refused leaves the account too
 

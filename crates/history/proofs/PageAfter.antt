@@ -18,14 +18,15 @@ use Rattle.device.specs.declared.Device.{Device}
 use Rattle.device.specs.Device.{clearing}
 use Rattle.device.specs.Step.{Call, write, read, measure, sample, alertResponse, refusedDevice}
 use Rattle.history.specs.Run.{next, answer, Whole, pageOf}
-use Rattle.history.specs.Refusals.{Refused, touchesNoPage, PagesStay}
+use Rattle.history.specs.Refusals.{Refused}
 use Rattle.history.specs.Clearing.{acceptedWrite, actsOn, clearingCall, clears}
+use Rattle.history.specs.Pages.{touches, PagesStay}
 use Rattle.history.specs.Tripping.{untripping, untrips}
 use Rattle.history.specs.Accepted.{codeOf}
-use Rattle.history.proofs.Refusals.{refused-call, pages-stay}
+use Rattle.history.proofs.Refusals.{refused-call, read-pages, sample-pages, alert-pages}
 use Rattle.history.proofs.Codes.{clearsAll, switchesOff, clearing-code, untripping-code}
 use Rattle.history.proofs.PageLeft.{PageLeft, kept, same-left, written-page, measured-page}
-use Rattle.history.proofs.Outcomes.{wrote, effectOf, put-pages, was-measured, measuredOf}
+use Rattle.history.proofs.Outcomes.{wrote, effectOf, written-pages, was-measured, measuredOf, measured-pages}
 
 -- ---- which calls clear and untrip
 
@@ -88,8 +89,7 @@ module _ (d : Device) (i : ℕ) (whole : Whole d) where
       let x = getD s 2 0 in
       let e = effectOf d s in
       let small = w .valid .page in
-      let pages : next d (write s) .pages ≡ set (d .pages) m (e .page) =
-      ap (λ (x : Device). x .pages) (w .after) ∙ put-pages (e .unpaged) (set (d .pages) m (e .page)) code in
+      let pages = written-pages d s z in
       either (eqb i m)
       (λ y. let here = eqb-true i m y in
       same-left (pageOf d m) (pageOf d i) (e .page) (pageOf (next d (write s)) i) (λ j k. clearsAll (commandOf code)) (clears d (write s) i)
@@ -109,7 +109,7 @@ module _ (d : Device) (i : ℕ) (whole : Whole d) where
       let w = was-measured d page quantity word z in
       let e = measuredOf d page quantity word in
       let small = w .small in
-      let pages : next d c .pages ≡ set (d .pages) page (e .page) = ap (λ (x : Device). x .pages) (w .after) in
+      let pages = measured-pages d page quantity word z in
       either (eqb i page)
       (λ y. let here = eqb-true i page y in
       same-left (pageOf d page) (pageOf d i) (e .page) (pageOf (next d c) i) (λ j k. false) (clears d c i) false (untrips d c i)
@@ -119,16 +119,34 @@ module _ (d : Device) (i : ℕ) (whole : Whole d) where
       (λ n. untouched d c i (set-there d (next d c) page (e .page) i pages (eqb-false i page n)) (λ test. refl))
 
   answered-left : (c : Call) → answer d c ≡ 0 → LeftAt d c i
-  unfolding acceptedWrite PagesStay touchesNoPage
+  unfolding acceptedWrite
   answered-left (write s) z = written-left s z
   answered-left (read header n) z =
-      untouched d (read header n) i (ap (λ (ps : List Page). getD ps i noPage) (pages-stay d (read header n) refl)) (λ test. refl)
+      untouched d (read header n) i (ap (λ (ps : List Page). getD ps i noPage) (read-pages d header n)) (λ test. refl)
   answered-left (measure page quantity word) z = measured-left page quantity word z
   answered-left (sample n) z =
-      untouched d (sample n) i (ap (λ (ps : List Page). getD ps i noPage) (pages-stay d (sample n) refl)) (λ test. refl)
+      untouched d (sample n) i (ap (λ (ps : List Page). getD ps i noPage) (sample-pages d n)) (λ test. refl)
   answered-left (alertResponse n) z =
-      untouched d (alertResponse n) i (ap (λ (ps : List Page). getD ps i noPage) (pages-stay d (alertResponse n) refl)) (λ test. refl)
+      untouched d (alertResponse n) i (ap (λ (ps : List Page). getD ps i noPage) (alert-pages d n)) (λ test. refl)
 
   pub page-after : (c : Call) → LeftAt d c i
   page-after c =
       either (eqb (answer d c) 0) (λ y. answered-left c (eqb-true (answer d c) 0 y)) (λ n. refused-left d c i (eqb-false (answer d c) 0 n))
+
+-- ---- the pages that a call leaves alone
+
+module _ (d : Device) (i : ℕ) where
+  others-stay : (c : Call) → answer d c ≡ 0 → touches d c i ≡ false → pageOf (next d c) i ≡ pageOf d i
+  unfolding touches
+  others-stay (write s) z h = set-there d (next d (write s)) (d .unpaged .page) (effectOf d s .page) i (written-pages d s z) (eqb-false i (d .unpaged .page) h)
+  others-stay (read header n) z h = ap (λ (ps : List Page). getD ps i noPage) (read-pages d header n)
+  others-stay (measure page quantity word) z h =
+      set-there d (next d (measure page quantity word)) page (measuredOf d page quantity word .page) i (measured-pages d page quantity word z) (eqb-false i page h)
+  others-stay (sample n) z h = ap (λ (ps : List Page). getD ps i noPage) (sample-pages d n)
+  others-stay (alertResponse n) z h = ap (λ (ps : List Page). getD ps i noPage) (alert-pages d n)
+
+pub pages-stay : PagesStay
+unfolding PagesStay Refused refusedDevice
+pages-stay d c i h =
+    either (eqb (answer d c) 0) (λ y. others-stay d i c (eqb-true (answer d c) 0 y) h)
+    (λ n. ap (λ (e : Device). pageOf e i) (refused-call d c (eqb-false (answer d c) 0 n)))

@@ -2,12 +2,16 @@
 -- Assumes nothing.
 use Prim.Native.Nat.{ℕ}
 use mathlib.Core.Path.{_≡_, refl, sym, ap, _∙_}
-use mathlib.Core.Bool.{or-false, and-true, false≢true}
+use mathlib.Core.Bool.{true, or-false, and-true}
 use mathlib.Core.List.{List}
-use lib.Dec.{ltb}
+use native.Mathlib.Omega.{arith}
+use lib.Dec.{ltb, eqb, ltb→lt}
+use lib.ListN.{getD}
 use lib.Bits.{bitOr, or-zero-r, or-self}
-use borrow.Author.Tests.{eq-eqb, ne-eqb}
+use borrow.Author.Tests.{eq-eqb, ne-eqb, eqb-true}
 use Rattle.laws.proofs.Branches.{either, cond-same, cond-apply}
+use Rattle.laws.proofs.Every.{each, agree}
+use Rattle.laws.proofs.Lists.{any-found}
 use Rattle.account.specs.Account.{sampled}
 use Rattle.transaction.specs.declared.Unpaged.{Unpaged}
 use Rattle.transaction.specs.Unpaged.{cmlBits, refused}
@@ -17,7 +21,7 @@ use Rattle.device.specs.declared.Device.{Device}
 use Rattle.device.specs.Device.{deviceValid}
 use Rattle.device.specs.Step.{write, read, measure, sample, alertResponse, step, refusedDevice, writeDone, transacted, afterWrite, readDone, measureDone, measuredDone, afterMeasure, sampleDone, sampledDone, alertDone, alertAnsweredDevice, alertAnswerOf}
 use Rattle.history.specs.Run.{next, answer}
-use Rattle.history.specs.Refusals.{Refused, Unchanged, touchesNoPage, PagesStay}
+use Rattle.history.specs.Refusals.{Refused, Unchanged, silentAnswers, silent}
 
 pub unpaged-stays : (u : Unpaged) (a : ℕ) → cmlBits a ≡ 0 → refused u a ≡ u
 unfolding refused
@@ -88,14 +92,31 @@ refused-call d (measure page quantity word) h = refused-measure d page quantity 
 refused-call d (sample n) h = refused-sample d n h
 refused-call d (alertResponse n) h = refused-alert d n h
 
+silent-sets-none : (a : ℕ) → silent a ≡ true → (cmlBits a ≡ 0) × (a ≡ 0 → ⊥)
+unfolding silent cmlBits
+silent-sets-none a h =
+    let r = any-found 0 (eqb a) silentAnswers h in
+    let i = r .0 in
+    let same = eqb-true a (getD silentAnswers i 0) (r .2) in
+    let some = ltb→lt 0 (getD silentAnswers i 0) (each (λ k. ltb 0 (getD silentAnswers k 0)) 6 tt i (r .1)) in
+    (ap cmlBits same ∙ agree (λ k. cmlBits (getD silentAnswers k 0)) (λ k. 0) 6 tt i (r .1), λ zero. omega arith)
+
 pub unchanged : Unchanged
 unfolding Unchanged Refused
-unchanged d c h e = refused-call d c h ∙ device-stays d (answer d c) e
+unchanged d c h =
+    let n = silent-sets-none (answer d c) h in
+    refused-call d c (n .1) ∙ device-stays d (answer d c) (n .0)
 
-pub pages-stay : PagesStay
-unfolding PagesStay touchesNoPage step readDone refusedDevice sampleDone sampledDone alertDone alertAnsweredDevice
-pages-stay d (write s) h = absurd (false≢true h)
-pages-stay d (read header n) h = refl
-pages-stay d (measure page quantity word) h = absurd (false≢true h)
-pages-stay d (sample n) h = either (deviceValid d) (λ e. rw (e, next)) (λ e. rw (e, next))
-pages-stay d (alertResponse n) h = refl
+-- reads, samples and alert responses hand the pages back as they are
+module _ (d : Device) where
+  pub read-pages : (header : List ℕ) (n : ℕ) → next d (read header n) .pages ≡ d .pages
+  unfolding step readDone refusedDevice
+  read-pages header n = refl
+
+  pub sample-pages : (n : ℕ) → next d (sample n) .pages ≡ d .pages
+  unfolding step sampleDone sampledDone
+  sample-pages n = either (deviceValid d) (λ e. rw (e, next)) (λ e. rw (e, next))
+
+  pub alert-pages : (n : ℕ) → next d (alertResponse n) .pages ≡ d .pages
+  unfolding step alertDone alertAnsweredDevice
+  alert-pages n = refl

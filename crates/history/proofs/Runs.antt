@@ -5,7 +5,7 @@ use mathlib.Core.Path.{_≡_, refl, sym, ap, _∙_, subst}
 use mathlib.Core.Bool.{Bool}
 use mathlib.Core.List.{List, [], _∷_}
 use lib.Dec.{eqb}
-use lib.ListN.{length, set, length-set}
+use lib.ListN.{length, length-set}
 use borrow.Author.Tests.{eqb-true, eqb-false}
 use Rattle.laws.proofs.Branches.{either}
 use Rattle.laws.proofs.Lists.{replicate-each}
@@ -16,14 +16,13 @@ use Rattle.device.specs.Device.{powerOn}
 use Rattle.device.specs.Step.{Call, write, read, measure, sample, alertResponse, refusedDevice}
 use Rattle.history.specs.Run.{next, answer, run, reached, Whole, pageOf}
 use Rattle.history.specs.Valid.{ReachedWhole}
-use Rattle.history.specs.Refusals.{Refused, touchesNoPage, PagesStay}
-use Rattle.history.specs.Accepted.{codeOf}
+use Rattle.history.specs.Refusals.{Refused}
 use Rattle.history.specs.Clearing.{clears}
 use Rattle.history.specs.Tripping.{untrips}
-use Rattle.history.proofs.Refusals.{refused-call, pages-stay}
+use Rattle.history.proofs.Refusals.{refused-call, read-pages, sample-pages, alert-pages}
 use Rattle.history.proofs.Settled.{UpToDate, settled-current, powered-current, none-current}
 use Rattle.history.proofs.PageLeft.{PageLeft, kept, touched}
-use Rattle.history.proofs.Outcomes.{wrote, effectOf, put-pages, was-measured, measuredOf}
+use Rattle.history.proofs.Outcomes.{effectOf, written-pages, measuredOf, measured-pages}
 use Rattle.history.proofs.PageAfter.{page-after}
 
 -- what each call preserves holds after every list of calls
@@ -35,19 +34,12 @@ kept-in-runs P keeps d (c ∷ cs) h = kept-in-runs P keeps (next d c) cs (keeps 
 -- no call changes the number of pages
 module _ (d : Device) where
   answered-length : (c : Call) → answer d c ≡ 0 → length (next d c .pages) ≡ length (d .pages)
-  unfolding PagesStay touchesNoPage
-  answered-length (write s) z =
-      let w = wrote d s z in
-      let m = d .unpaged .page in
-      let e = effectOf d s in
-      ap (λ (x : Device). length (x .pages)) (w .after) ∙ ap length (put-pages (e .unpaged) (set (d .pages) m (e .page)) (codeOf s))
-      ∙ length-set (d .pages) m (e .page)
-  answered-length (read header n) z = ap length (pages-stay d (read header n) refl)
+  answered-length (write s) z = ap length (written-pages d s z) ∙ length-set (d .pages) (d .unpaged .page) (effectOf d s .page)
+  answered-length (read header n) z = ap length (read-pages d header n)
   answered-length (measure page quantity word) z =
-      let w = was-measured d page quantity word z in
-      ap (λ (x : Device). length (x .pages)) (w .after) ∙ length-set (d .pages) page (measuredOf d page quantity word .page)
-  answered-length (sample n) z = ap length (pages-stay d (sample n) refl)
-  answered-length (alertResponse n) z = ap length (pages-stay d (alertResponse n) refl)
+      ap length (measured-pages d page quantity word z) ∙ length-set (d .pages) page (measuredOf d page quantity word .page)
+  answered-length (sample n) z = ap length (sample-pages d n)
+  answered-length (alertResponse n) z = ap length (alert-pages d n)
 
   pub same-length : (c : Call) → length (next d c .pages) ≡ length (d .pages)
   unfolding Refused refusedDevice

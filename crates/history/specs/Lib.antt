@@ -2,6 +2,7 @@ pub mod Run
 pub mod Valid
 pub mod Refusals
 pub mod Clearing
+pub mod Pages
 pub mod Latching
 pub mod Tripping
 pub mod Alert
