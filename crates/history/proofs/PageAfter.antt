@@ -44,15 +44,15 @@ module _ (d : Device) (i : ℕ) where
   module _ (s : List ℕ) (z : answer d (write s) ≡ 0) where
     write-clears : (j k : ℕ) → clears d (write s) i j k ≡ (clearing (codeOf s) && actsOn d i)
     unfolding clears clearingCall acceptedWrite
-    write-clears j k = rw (eq-eqb (answer d (write s)) 0 z)
+    write-clears j k = cc (eq-eqb (answer d (write s)) 0 z)
 
     write-untrips : untrips d (write s) i ≡ (untripping (codeOf s) (getD s 2 0) && actsOn d i)
     unfolding untrips acceptedWrite
-    write-untrips = rw (eq-eqb (answer d (write s)) 0 z)
+    write-untrips = cc (eq-eqb (answer d (write s)) 0 z)
 
 pub refused-tests : (d : Device) (c : Call) → (answer d c ≡ 0 → ⊥) → (test : ℕ → ℕ → Bool) → acceptedWrite d c test ≡ false
 unfolding acceptedWrite
-refused-tests d (write s) h test = rw (ne-eqb (answer d (write s)) 0 h)
+refused-tests d (write s) h test = cc (ne-eqb (answer d (write s)) 0 h)
 refused-tests d (read header n) h test = refl
 refused-tests d (measure page quantity word) h test = refl
 refused-tests d (sample n) h test = refl
