@@ -4,7 +4,7 @@ ghost use mathlib.Core.Path.{_≡_};
 ghost use mathlib.Core.Bool.{true, false, _&&_};
 ghost use Prim.Native.Nat.{_+_, _<_, _^_};
 ghost use lib.Dec.{ltb};
-ghost use lib.ListN.{length, getD};
+ghost use lib.ListN.{length};
 ghost use Rattle.account.specs.Account.{accountValid, accountOf};
 ghost use Rattle.totalizer.specs.Totalizer.{totalizer, answered, freshTotalizer, energyReading, gap, replyCheck, replyAnswer, added, booked, totalize};
 

@@ -1,7 +1,7 @@
 -- `totalizer::account_from` meets its contract.
 -- Assumes nothing.
-use Rattle.account.specs.Account.{accountOf}
 use borrow.Author.Needs.{needs}
+use Rattle.account.specs.Account.{accountOf}
 use Rattle.totalizer.proofs.account_from.Statement.{statement}
 use Rattle.totalizer.proofs.account_from.Tie as tie
 

@@ -1,11 +1,11 @@
 -- `totalizer::added` meets its contract.
 -- Assumes nothing.
+use Prim.Native.Nat.{_+_}
+use mathlib.Core.Path.{_≡_, sym, _∙_}
 use native.Mathlib.Omega.{arith}
+use borrow.Author.Needs.{needs}
 use Rattle.totalizer.specs.Totalizer.{energyReading, gap, added, nextEnergy, nextSamples}
 use Rattle.totalizer.proofs.Outcomes.{in-range, reading-lt, both-below}
-use mathlib.Core.Path.{_≡_, sym, _∙_}
-use Prim.Native.Nat.{_+_}
-use borrow.Author.Needs.{needs}
 use Rattle.totalizer.proofs.added.Statement.{statement}
 use Rattle.totalizer.proofs.added.Tie as tie
 

@@ -1,9 +1,9 @@
 -- `totalizer::booked` meets its contract.
 -- Assumes nothing.
-use Rattle.totalizer.specs.Totalizer.{booked}
 use borrow.Author.Tests.{not-false}
-use Rattle.totalizer.proofs.Outcomes.{later}
 use borrow.Author.Needs.{needs}
+use Rattle.totalizer.specs.Totalizer.{booked}
+use Rattle.totalizer.proofs.Outcomes.{later}
 use Rattle.totalizer.proofs.booked.Statement.{statement}
 use Rattle.totalizer.proofs.booked.Tie as tie
 

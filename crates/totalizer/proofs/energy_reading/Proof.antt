@@ -1,8 +1,8 @@
 -- `totalizer::energy_reading` meets its contract.
 -- Assumes nothing.
+use borrow.Author.Needs.{needs}
 use Rattle.laws.proofs.Branches.{calls}
 use Rattle.totalizer.specs.Totalizer.{energyReading}
-use borrow.Author.Needs.{needs}
 use Rattle.totalizer.proofs.energy_reading.Statement.{statement}
 use Rattle.totalizer.proofs.energy_reading.Tie as tie
 

@@ -1,8 +1,8 @@
 -- `totalizer::fresh` meets its contract.
 -- Assumes nothing.
+use borrow.Author.Needs.{needs}
 use Rattle.laws.proofs.Branches.{calls}
 use Rattle.totalizer.specs.Totalizer.{freshTotalizer}
-use borrow.Author.Needs.{needs}
 use Rattle.totalizer.proofs.fresh.Statement.{statement}
 use Rattle.totalizer.proofs.fresh.Tie as tie
 

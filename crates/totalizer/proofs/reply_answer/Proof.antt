@@ -1,11 +1,11 @@
 -- `totalizer::reply_answer` meets its contract.
 -- Assumes nothing.
-use Rattle.laws.proofs.Branches.{calls}
-use Rattle.totalizer.specs.Totalizer.{replyAnswer}
 use mathlib.Core.Path.{sym, _∙_}
 use native.Mathlib.Omega.{arith}
-use Rattle.totalizer.proofs.Outcomes.{bad-check, bad-count-byte, bad-accumulator, passes}
 use borrow.Author.Needs.{needs}
+use Rattle.laws.proofs.Branches.{calls}
+use Rattle.totalizer.specs.Totalizer.{replyAnswer}
+use Rattle.totalizer.proofs.Outcomes.{bad-check, bad-count-byte, bad-accumulator, passes}
 use Rattle.totalizer.proofs.reply_answer.Statement.{statement}
 use Rattle.totalizer.proofs.reply_answer.Tie as tie
 

@@ -3,9 +3,9 @@
 use mathlib.Core.Path.{sym}
 use native.Mathlib.Omega.{arith}
 use lib.Seq.{length-take-le}
+use borrow.Author.Needs.{needs}
 use Rattle.pec.specs.Pec.{pec, pecFrom}
 use Rattle.totalizer.specs.Totalizer.{replyCheck}
-use borrow.Author.Needs.{needs}
 use Rattle.totalizer.proofs.reply_check.Statement.{statement}
 use Rattle.totalizer.proofs.reply_check.Tie as tie
 

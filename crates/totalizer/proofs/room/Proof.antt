@@ -1,8 +1,8 @@
 -- `totalizer::room` meets its contract.
 -- Assumes nothing.
 use native.Mathlib.Omega.{arith}
-use Rattle.totalizer.proofs.Outcomes.{fits-test}
 use borrow.Author.Needs.{needs}
+use Rattle.totalizer.proofs.Outcomes.{fits-test}
 use Rattle.totalizer.proofs.room.Statement.{statement}
 use Rattle.totalizer.proofs.room.Tie as tie
 

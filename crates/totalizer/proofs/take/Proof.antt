@@ -2,9 +2,9 @@
 -- Assumes nothing.
 use mathlib.Core.Path.{sym, _∙_}
 use borrow.Author.Tests.{not-true, not-false, ne-eqb, eq-eqb}
+use borrow.Author.Needs.{needs}
 use Rattle.totalizer.specs.Totalizer.{totalize}
 use Rattle.totalizer.proofs.Outcomes.{eight}
-use borrow.Author.Needs.{needs}
 use Rattle.totalizer.proofs.take.Statement.{statement}
 use Rattle.totalizer.proofs.take.Tie as tie
 
