@@ -11,7 +11,8 @@ use borrow.Author.Tests.{lt-ltb}
 use Rattle.laws.specs.Lists.{Bytes}
 use Rattle.pec.specs.Pec.{pec, pecFrom, pecByte}
 use Rattle.pec.specs.Burst.{Changed}
-use Rattle.pec.proofs.Burst.{not-both, bit-lt}
+use Rattle.pec.proofs.Burst.{not-both}
+use Rattle.pec.proofs.Laws.{pec-lt}
 use Rattle.account.specs.declared.Account.{Account}
 use Rattle.account.specs.Account.{accountValid, einBytes, accountOf}
 use Rattle.totalizer.specs.declared.Totalizer.{Totalizer}
@@ -26,19 +27,14 @@ valid a v = rw (lt-ltb _ _ (v .accumulator-lt), lt-ltb _ _ (v .rollover-lt), lt-
 
 -- ---- the reply is eight bytes, and its last is its check
 
-from-lt : (r : ℕ) (s : List ℕ) → r < 256 → pecFrom r s < 256
-unfolding pecFrom pecByte
-from-lt r [] h = h
-from-lt r (b ∷ bs) h = from-lt (pecByte r b) bs (bit-lt _)
-
-pec-lt : (s : List ℕ) → pec s < 256
+check-lt : (s : List ℕ) → pec s < 256
 unfolding pec
-pec-lt s = from-lt 0 s (lit< tt)
+check-lt s = pec-lt 0 s (lit< tt)
 
 reply-bytes : (a : Account) → Bytes (energyReply a)
 unfolding energyReply einBytes Bytes
 reply-bytes a =
-    (omega arith, (omega arith, (omega arith, (omega arith, (omega arith, (omega arith, (omega arith, (pec-lt _, tt))))))))
+    (omega arith, (omega arith, (omega arith, (omega arith, (omega arith, (omega arith, (omega arith, (check-lt _, tt))))))))
 
 reply-length : (a : Account) → length (energyReply a) ≡ 8
 unfolding energyReply einBytes
@@ -76,7 +72,7 @@ module _ (t : Totalizer) (a : Account) (l : accountValid (t .last) ≡ true) whe
   wrong-check : (s : List ℕ) → Changed (energyReply a) s → Bytes s → replyCheck s ≡ getD s 7 0 → ⊥
   unfolding replyCheck pec pecFrom
   wrong-check s c h e =
-      not-both (pec (0xC0 ∷ 0x86 ∷ 0xC1 ∷ [])) 7 (energyReply a) s (pec-lt (0xC0 ∷ 0x86 ∷ 0xC1 ∷ [])) (reply-length a) (reply-bytes a) h c (own-check a) e
+      not-both (pec (0xC0 ∷ 0x86 ∷ 0xC1 ∷ [])) 7 (energyReply a) s (check-lt (0xC0 ∷ 0x86 ∷ 0xC1 ∷ [])) (reply-length a) (reply-bytes a) h c (own-check a) e
 
   pub changed-refused : (s : List ℕ) → Changed (energyReply a) s → Bytes s → totalize t s ≡ answered 21 t
   unfolding totalize
