@@ -5,14 +5,15 @@ use mathlib.Core.Path.{_≡_, refl, sym, _∙_}
 use mathlib.Core.Bool.{true}
 use mathlib.Core.List.{List, [], _∷_}
 use native.Mathlib.Omega.{arith}
-use lib.Dec.{lit<}
+use lib.Bits.{xor-lt}
+use lib.Dec.{ltb, lit<}
 use lib.ListN.{length, getD}
-use borrow.Author.Tests.{lt-ltb}
+use borrow.Author.Tests.{ltb-true, lt-ltb}
 use Rattle.laws.specs.Lists.{Bytes}
-use Rattle.pec.specs.Pec.{pec, pecFrom, pecByte}
+use Rattle.laws.proofs.Branches.{either}
+use Rattle.pec.specs.Pec.{pec, pecFrom, pecByte, pecBit}
 use Rattle.pec.specs.Burst.{Changed}
 use Rattle.pec.proofs.Burst.{not-both}
-use Rattle.pec.proofs.Laws.{pec-lt}
 use Rattle.account.specs.declared.Account.{Account}
 use Rattle.account.specs.Account.{accountValid, einBytes, accountOf}
 use Rattle.totalizer.specs.declared.Totalizer.{Totalizer}
@@ -27,7 +28,19 @@ valid a v = rw (lt-ltb _ _ (v .accumulator-lt), lt-ltb _ _ (v .rollover-lt), lt-
 
 -- ---- the reply is eight bytes, and its last is its check
 
-check-lt : (s : List ℕ) → pec s < 256
+bit-lt : (x : ℕ) → pecBit x < 256
+unfolding pecBit
+bit-lt x =
+    either (ltb x 128)
+    (λ e. let h : x < 128 = ltb-true x 128 e in rw e (omega arith))
+    (λ e. rw e (xor-lt 8 (x * 2 % 256) 7 (omega arith) (omega arith)))
+
+from-lt : (r : ℕ) (s : List ℕ) → r < 256 → pecFrom r s < 256
+unfolding pecFrom pecByte
+from-lt r [] h = h
+from-lt r (b ∷ bs) h = from-lt (pecByte r b) bs (bit-lt _)
+
+pec-lt : (s : List ℕ) → pec s < 256
 unfolding pec
 check-lt s = pec-lt 0 s (lit< tt)
 
