@@ -1,0 +1,42 @@
+-- Demand 3, for one account and its totalizer: one claim about every list of events from power-on.
+-- Assumes nothing.
+use mathlib.Core.Path.{_≡_}
+use Prim.Native.Nat.{ℕ, _^_}
+use mathlib.Core.Bool.{true, cond, _&&_}
+use mathlib.Core.List.{List, [], _∷_}
+use lib.Dec.{ltb}
+use Rattle.totalizer.specs.declared.Taken.{Taken}
+use Rattle.energy.specs.Reply.{Copy, intact, changed}
+use Rattle.energy.specs.Events.{Entry, took, got, Event, AreEvents, powerOn, run}
+use Rattle.energy.specs.Tally.{SumAndNumber, tally, isAccepted, upTo, samplesBetween, inBounds}
+
+-- the answer that a copy is due where the tally at it is y
+unfoldable pub answerDue : Copy → SumAndNumber → ℕ
+answerDue (changed s) y = 21
+answerDue intact y = cond (ltb (y .sum) (2 ^ 64) && ltb (y .number) (2 ^ 64)) 0 24
+
+-- the totals after a copy
+abbrev pub totals : Taken → SumAndNumber
+totals k = record { sum = k .totalizer .energy; number = k .totalizer .samples }
+
+-- what holds of a copy c with the outcome k, where h is the history up to it and with it
+pub record Holds (c : Copy) (k : Taken) (h : List Entry) : Type 0 where
+  -- "Each changed copy gets 21. Each intact copy is accepted exactly when both numbers of document 01's tally at it are below 2^64,
+  -- and gets 24 otherwise."
+  pub answer : k .answer ≡ answerDue c (tally h)
+  -- "After each copy, refused ones included, the totals equal the tally at the latest accepted one, or zero before any."
+  pub total : totals k ≡ tally (upTo isAccepted h)
+  -- "They equal the sum and number of samples the device took between the first and the latest accepted reply wherever, between
+  -- neighbouring accepted replies up to there, the sum stayed below 8,388,608 and the number below 16,777,216."
+  pub samples : inBounds h ≡ true → totals k ≡ samplesBetween h
+
+-- every copy in a history
+unfoldable pub AtEachCopy : List Entry → Type 0
+AtEachCopy [] = Unit
+AtEachCopy (took n ∷ h) = AtEachCopy h
+AtEachCopy (got c k ∷ h) = Holds c k (got c k ∷ h) × AtEachCopy h
+
+-- "For every list of calls from one power-on .., its eight byte energy replies with answer 0 are presented in order to a fresh totalizer,
+-- whichever of them are lost, repeated at once or changed within one run of eight adjacent bits."
+unfoldable pub Claim : Type 0
+Claim = (es : List Event) → AreEvents powerOn es → AtEachCopy (run powerOn es .log .history)

@@ -1,0 +1,5 @@
+pub mod Reply
+pub mod Events
+pub mod Tally
+pub mod Claim
+pub mod Example

@@ -1,0 +1,32 @@
+-- An account's energy reply, and the copies of a reply that a totalizer may get.
+-- Assumes nothing.
+use Prim.Native.Nat.{ℕ}
+use mathlib.Core.List.{List, [], _∷_, _++_}
+use Rattle.laws.specs.Lists.{Bytes}
+use Rattle.pec.specs.Pec.{pec}
+use Rattle.pec.specs.Burst.{Changed}
+use Rattle.account.specs.declared.Account.{Account}
+use Rattle.account.specs.Account.{einBytes}
+
+-- "the eight bytes left by a read of 86h with n 8 and answer 0": READ_EIN, and the PEC over the header C0h, 86h, C1h and these
+unfoldable pub energyReply : Account → List ℕ
+energyReply a = einBytes a ++ (pec (0xC0 ∷ 0x86 ∷ 0xC1 ∷ einBytes a) ∷ [])
+
+-- a copy of a reply: intact, or changed to these bytes
+pub data Copy : Type 0 where
+  intact : Copy
+  changed : List ℕ → Copy
+
+-- the bytes that the totalizer gets
+abbrev pub bytesOf : List ℕ → Copy → List ℕ
+bytesOf reply intact = reply
+bytesOf reply (changed s) = s
+
+-- "In a changed copy at least one bit differs, and all that differ lie within eight adjacent ones; in an intact one none does."
+abbrev pub IsCopy : List ℕ → Copy → Type 0
+IsCopy reply intact = Unit
+IsCopy reply (changed s) = Changed reply s × Bytes s
+
+unfoldable pub AreCopies : List ℕ → List Copy → Type 0
+AreCopies reply [] = Unit
+AreCopies reply (c ∷ cs) = IsCopy reply c × AreCopies reply cs

@@ -1,0 +1,59 @@
+-- Bits latch: each present cause's bit is 1 after every call, and a bit falls by a listed clearing alone.
+-- Assumes nothing.
+use Prim.Native.Nat.{ℕ, _<_}
+use mathlib.Core.Path.{_≡_, sym, ap, ap₂, _∙_}
+use mathlib.Core.Bool.{Bool, true, false, not, _&&_, _||_, and-true, or-false, or-true, false≢true}
+use lib.Dec.{ltb, ltb→lt}
+use Rattle.laws.proofs.Branches.{either}
+use Rattle.laws.proofs.Every.{each}
+use Rattle.page.specs.declared.Page.{Page}
+use Rattle.page.specs.Causes.{settled}
+use Rattle.history.specs.Run.{next, reached, pageOf, statusBit}
+use Rattle.history.specs.Clearing.{clears, Falls}
+use Rattle.history.specs.Tripping.{untrips}
+use Rattle.history.specs.Latching.{causeBits, registerOf, bitOf, caused, Latched, Latches}
+use Rattle.history.proofs.Settled.{UpToDate, settled-bit, settled-caused, cause-bit}
+use Rattle.history.proofs.PageLeft.{PageLeft, kept, touched, Changed}
+use Rattle.history.proofs.PageAfter.{page-after}
+use Rattle.history.proofs.Runs.{current}
+
+register-lt : (n : ℕ) → n < 6 → registerOf n < 4
+unfolding registerOf causeBits
+register-lt n h = ltb→lt (registerOf n) 4 (each (λ n. ltb (registerOf n) 4) 6 tt n h)
+
+pub latched : Latched
+unfolding Latched
+latched cs i n hi hn e =
+    let p = pageOf (reached cs) i in
+    current cs .page i .latched (registerOf n) (bitOf n) (register-lt n hn) (cause-bit p n hn e)
+
+module _ (p r : Page) (clear : ℕ → ℕ → Bool) (off : Bool) (j k : ℕ) (h : j < 4) where
+  -- the bit of a page that was changed and brought up to date
+  touched-bit : (q : Page) → r ≡ settled q → Changed p q clear off
+      → statusBit r j k ≡ (statusBit p j k && not (clear j k) || caused r j k)
+  touched-bit q e g =
+      ap (λ (x : Page). statusBit x j k) e ∙ settled-bit q j k h
+      ∙ ap₂ _||_ (g .bits j k) (sym (settled-caused q j k) ∙ ap (λ (x : Page). caused x j k) (sym e))
+
+  left-bit : PageLeft p r clear off → UpToDate p → statusBit r j k ≡ (statusBit p j k && not (clear j k) || caused r j k)
+  left-bit (kept e s t) g =
+      rw (e, s j k, and-true (statusBit p j k))
+      (either (caused p j k) (λ y. g .latched j k h y ∙ rw (y, or-true (statusBit p j k))) (λ n. rw (n, or-false (statusBit p j k))))
+  left-bit (touched q e t) g = touched-bit q e t
+
+  left-falls : PageLeft p r clear off → statusBit p j k ≡ true → statusBit r j k ≡ false → clear j k ≡ true
+  left-falls (kept e s t) b f = absurd (false≢true (sym f ∙ ap (λ (x : Page). statusBit x j k) e ∙ b))
+  left-falls (touched q e t) b f =
+      either (clear j k) (λ y. y) (λ n. absurd (false≢true (sym f ∙ touched-bit q e t ∙ rw (b, n))))
+
+pub latches : Latches
+unfolding Latches
+latches cs c i j k hi hj =
+    let d = reached cs in
+    let g = current cs in
+    left-bit (pageOf d i) (pageOf (next d c) i) (clears d c i) (untrips d c i) j k hj (page-after d i (g .whole) c) (g .page i)
+
+pub falls : Falls
+unfolding Falls
+falls d c i j k whole h =
+    left-falls (pageOf d i) (pageOf (next d c) i) (clears d c i) (untrips d c i) j k h (page-after d i whole c)

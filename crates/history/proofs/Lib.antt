@@ -1,0 +1,16 @@
+pub mod Accepted
+pub mod Codes
+pub mod Refusals
+pub mod Outcomes
+pub mod Settled
+pub mod PageLeft
+pub mod PageAfter
+pub mod Runs
+pub mod ValidPage
+pub mod Valid
+pub mod Latching
+pub mod Cml
+pub mod Tripping
+pub mod Bits
+pub mod Alert
+pub mod StatusWords

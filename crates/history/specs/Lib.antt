@@ -1,0 +1,10 @@
+pub mod Run
+pub mod Valid
+pub mod Refusals
+pub mod Clearing
+pub mod Pages
+pub mod Latching
+pub mod Tripping
+pub mod Alert
+pub mod Accepted
+pub mod StatusWords

@@ -1,0 +1,21 @@
+-- Which pages a call may change.
+-- Assumes nothing.
+use Prim.Native.Nat.{ℕ}
+use mathlib.Core.Path.{_≡_}
+use mathlib.Core.Bool.{Bool, false}
+use lib.Dec.{eqb}
+use Rattle.device.specs.declared.Device.{Device}
+use Rattle.device.specs.Step.{Call, write, read, measure, sample, alertResponse}
+use Rattle.history.specs.Run.{next, pageOf}
+use Rattle.history.specs.Clearing.{actsOn}
+
+-- a write the page that it acts on, a measurement the one that it names, no other call any
+unfoldable pub touches : Device → Call → ℕ → Bool
+touches d (write s) i = actsOn d i
+touches d (read header n) i = false
+touches d (measure page quantity word) i = eqb i page
+touches d (sample n) i = false
+touches d (alertResponse n) i = false
+
+unfoldable pub PagesStay : Type 0
+PagesStay = (d : Device) (c : Call) (i : ℕ) → touches d c i ≡ false → pageOf (next d c) i ≡ pageOf d i

@@ -1,0 +1,92 @@
+-- What the totalizer's definitions are at each outcome, from plain facts.
+-- Assumes nothing.
+use Prim.Native.Nat.{ℕ, _+_, _-_, _^_, _<_, _≤_}
+use mathlib.Core.Path.{_≡_, refl}
+use mathlib.Core.Bool.{Bool, true, false, _&&_}
+use mathlib.Core.List.{List}
+use native.Mathlib.Omega.{arith}
+use lib.Dec.{ltb, leb, eqb}
+use lib.ListN.{length, getD}
+use borrow.Author.Tests.{ltb-true, ltb-false, lt-ltb, le-ltb, le-leb, lt-leb, eqb-true, eq-eqb, ne-eqb}
+use Rattle.laws.proofs.Branches.{either}
+use Rattle.account.specs.declared.Account.{Account}
+use Rattle.account.specs.Account.{accountValid, accountOf}
+use Rattle.totalizer.specs.declared.Totalizer.{Totalizer}
+use Rattle.totalizer.specs.Totalizer.{totalizer, answered, energyReading, replyCheck, replyAnswer, added, booked}
+
+-- ---- a valid account is in range
+
+both-true : (a b : Bool) → (a && b) ≡ true → (a ≡ true) × (b ≡ true)
+both-true true b e = (refl, e)
+both-true false b e = absurd (let z : _≡_ {A = ℕ} 0 1 = cc in omega arith)
+
+pub record InRange (a : Account) : Type 0 where
+  pub accumulator-lt : a .accumulator < 32768
+  pub rollover-lt : a .rollover < 256
+  pub count-lt : a .count < 16777216
+
+pub in-range : (a : Account) → accountValid a ≡ true → InRange a
+unfolding accountValid
+in-range a v =
+    let p = both-true (ltb (a .accumulator) 32768 && ltb (a .rollover) 256) (ltb (a .count) 16777216) v in
+    let q = both-true (ltb (a .accumulator) 32768) (ltb (a .rollover) 256) (p .0) in
+    record {
+      accumulator-lt = ltb-true _ _ (q .0);
+      rollover-lt = ltb-true _ _ (q .1);
+      count-lt = ltb-true _ _ (p .1);
+    }
+
+pub reading-lt : (a : Account) → accountValid a ≡ true → energyReading a < 8388608
+unfolding energyReading
+reading-lt a v = omega (arith, in-range a v)
+
+-- ---- a reply of eight bytes
+
+module _ (s : List ℕ) (l : length s ≡ 8) where
+  pub bad-check : (replyCheck s ≡ getD s 7 0 → ⊥) → replyAnswer s ≡ 21
+  unfolding replyAnswer
+  bad-check h = rw (eq-eqb _ _ l, ne-eqb _ _ h)
+
+  module _ (h : replyCheck s ≡ getD s 7 0) where
+    pub bad-count-byte : (getD s 0 0 ≡ 6 → ⊥) → replyAnswer s ≡ 22
+    unfolding replyAnswer
+    bad-count-byte k = rw (eq-eqb _ _ l, eq-eqb _ _ h, ne-eqb _ _ k)
+
+    pub bad-accumulator : getD s 0 0 ≡ 6 → 0x7FFF < accountOf s .accumulator → replyAnswer s ≡ 23
+    unfolding replyAnswer
+    bad-accumulator k m = rw (eq-eqb _ _ l, eq-eqb _ _ h, eq-eqb _ _ k, lt-ltb _ _ m)
+
+    pub passes : getD s 0 0 ≡ 6 → accountOf s .accumulator ≤ 0x7FFF → replyAnswer s ≡ 0
+    unfolding replyAnswer
+    passes k m = rw (eq-eqb _ _ l, eq-eqb _ _ h, eq-eqb _ _ k, le-ltb _ _ m)
+
+pub eight : (s : List ℕ) → replyAnswer s ≡ 0 → length s ≡ 8
+unfolding replyAnswer
+eight s h = either (eqb (length s) 8) (λ e. eqb-true _ _ e) (λ e. absurd (let z = rw e at h in omega arith))
+
+-- ---- a total of 64 bits
+
+-- the code's test for a sum below 2^64, with no sum that wraps
+pub fits-test : (t n : ℕ) → t < 2 ^ 64 → leb n (18446744073709551615 - t) ≡ ltb (t + n) (2 ^ 64)
+fits-test t n h =
+    either (ltb (t + n) (2 ^ 64))
+    (λ e. let k : t + n < 2 ^ 64 = ltb-true _ _ e in rw e (le-leb n (18446744073709551615 - t) (omega arith)))
+    (λ e. let k : 2 ^ 64 ≤ t + n = ltb-false _ _ e in rw e (lt-leb n (18446744073709551615 - t) (omega arith)))
+
+pub both-below : (x y : ℕ) → (ltb x (2 ^ 64) && ltb y (2 ^ 64)) ≡ true → (x < 2 ^ 64) × (y < 2 ^ 64)
+both-below x y e = let p = both-true (ltb x (2 ^ 64)) (ltb y (2 ^ 64)) e in (ltb-true _ _ (p .0), ltb-true _ _ (p .1))
+
+-- ---- an account that passed
+
+module _ (t : Totalizer) (a : Account) where
+  pub refused-closed : t .closed ≡ true → booked t a ≡ answered 24 t
+  unfolding booked
+  refused-closed h = rw h
+
+  pub start : t .closed ≡ false → t .started ≡ false → booked t a ≡ answered 0 (totalizer true false a 0 0)
+  unfolding booked
+  start h k = rw (h, k)
+
+  pub later : t .closed ≡ false → t .started ≡ true → booked t a ≡ added t a
+  unfolding booked
+  later h k = rw (h, k)

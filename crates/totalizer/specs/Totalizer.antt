@@ -1,0 +1,71 @@
+-- The host's totalizer (document 01, 'Energy account' and answers 15 and 20 to 24): what one reply does to it.
+-- Assumes nothing.
+use Prim.Native.Nat.{ℕ, _+_, _*_, _-_, _%_, _^_}
+use mathlib.Core.Bool.{Bool, true, false, cond, _&&_, not}
+use mathlib.Core.List.{List, _∷_}
+use lib.Dec.{ltb, eqb}
+use lib.ListN.{length, take, getD}
+use Rattle.pec.specs.Pec.{pec}
+use Rattle.account.specs.declared.Account.{Account}
+use Rattle.account.specs.Account.{account, accountValid, accountOf}
+use Rattle.totalizer.specs.declared.Totalizer.{Totalizer}
+use Rattle.totalizer.specs.declared.Taken.{Taken}
+
+abbrev pub totalizer : Bool → Bool → Account → ℕ → ℕ → Totalizer
+totalizer s c a e n = record { started = s; closed = c; last = a; energy = e; samples = n }
+
+abbrev pub answered : ℕ → Totalizer → Taken
+answered n t = record { totalizer = t; answer = n }
+
+-- "fresh, it has accepted nothing, isn't closed, totals 0, and its fields for the last accepted reply 0"
+unfoldable pub freshTotalizer : Totalizer
+freshTotalizer = totalizer false false (account 0 0 0) 0 0
+
+-- "rollover times 32768 plus accumulator"
+unfoldable pub energyReading : Account → ℕ
+energyReading a = a .rollover * 32768 + a .accumulator
+
+-- "the difference .. modulo": how far a number that wraps at m went forward from last to new
+abbrev pub gap : ℕ → ℕ → ℕ → ℕ
+gap m last new = (new + m - last) % m
+
+-- the packet check of a reply: "the header is known", and the seven bytes of READ_EIN
+unfoldable pub replyCheck : List ℕ → ℕ
+replyCheck s = pec (0xC0 ∷ 0x86 ∷ 0xC1 ∷ take 7 s)
+
+-- answers 20 to 23, or 0 for a reply that passes them
+unfoldable pub replyAnswer : List ℕ → ℕ
+replyAnswer s =
+    cond (not (eqb (length s) 8)) 20
+    (cond (not (eqb (replyCheck s) (getD s 7 0))) 21
+    (cond (not (eqb (getD s 0 0) 6)) 22
+    (cond (ltb 0x7FFF (accountOf s .accumulator)) 23 0)))
+
+-- the totals with the differences since the last accepted reply added
+unfoldable pub nextEnergy : Totalizer → Account → ℕ
+nextEnergy t a = t .energy + gap 8388608 (energyReading (t .last)) (energyReading a)
+
+unfoldable pub nextSamples : Totalizer → Account → ℕ
+nextSamples t a = t .samples + gap 16777216 (t .last .count) (a .count)
+
+-- "24: a total would reach 2^64; changes only its closed mark"
+unfoldable pub added : Totalizer → Account → Taken
+added t a =
+    cond (ltb (nextEnergy t a) (2 ^ 64) && ltb (nextSamples t a) (2 ^ 64))
+    (answered 0 (totalizer true (t .closed) a (nextEnergy t a) (nextSamples t a)))
+    (answered 24 (totalizer (t .started) true (t .last) (t .energy) (t .samples)))
+
+-- an account that passed 20 to 23: "closed, started or not, each reply that passes 20 to 23 gets 24";
+-- "The first accepted reply is the start, totals 0. Each later one adds the difference"
+unfoldable pub booked : Totalizer → Account → Taken
+booked t a =
+    cond (t .closed) (answered 24 t)
+    (cond (not (t .started)) (answered 0 (totalizer true false a 0 0))
+    (added t a))
+
+-- one reply; "Under 15 and 20 to 23 the whole totalizer stays, the last accepted reply included"
+unfoldable pub totalize : Totalizer → List ℕ → Taken
+totalize t s =
+    cond (not (accountValid (t .last))) (answered 15 t)
+    (cond (not (eqb (replyAnswer s) 0)) (answered (replyAnswer s) t)
+    (booked t (accountOf s)))

@@ -1,0 +1,226 @@
+// The host's totalizer: it adds up energy and samples from the device's energy replies, of which any may be lost, repeated or damaged.
+// It knows nothing of the device but the layout of the reply.
+ghost use mathlib.Core.Path.{_≡_};
+ghost use mathlib.Core.Bool.{true, false, _&&_};
+ghost use Prim.Native.Nat.{_+_, _<_, _^_};
+ghost use lib.Dec.{ltb};
+ghost use lib.ListN.{length};
+ghost use Rattle.account.specs.Account.{accountValid, accountOf};
+ghost use Rattle.totalizer.specs.Totalizer.{totalizer, answered, freshTotalizer, energyReading, gap, replyCheck, replyAnswer, added, booked, totalize};
+
+#[repr(C)]
+pub struct Totalizer {
+    // A reply has been accepted.
+    pub started: bool,
+    // A total would have reached 2^64.
+    pub closed: bool,
+    // The account in the last accepted reply.
+    pub last: account::Account,
+    // The totals since the first accepted reply.
+    pub energy: u64,
+    pub samples: u64,
+}
+
+// The totalizer after a reply, and the answer number.
+pub struct Taken {
+    pub totalizer: Totalizer,
+    pub answer: u8,
+}
+
+// Answer numbers of document 01.
+pub const DONE: u8 = 0;
+
+pub const STATE_INVALID: u8 = 15;
+
+pub const LENGTH_NOT_EIGHT: u8 = 20;
+
+pub const PEC_WRONG: u8 = 21;
+
+pub const COUNT_BYTE_WRONG: u8 = 22;
+
+pub const ACCUMULATOR_TOO_LARGE: u8 = 23;
+
+pub const TOTAL_FULL: u8 = 24;
+
+// A totalizer that is open, with totals 0.
+fn zero_totals(started: bool, a: account::Account) -> Totalizer
+    ensures { λ r. ⌜ r ≡ totalizer started false a 0 0 ⌝ }
+{
+    Totalizer {
+        started: started,
+        closed: false,
+        last: a,
+        energy: 0,
+        samples: 0,
+    }
+}
+
+// A totalizer that has accepted nothing.
+pub fn fresh() -> Totalizer
+    ensures { λ r. ⌜ r ≡ freshTotalizer ⌝ }
+{
+    let none = account::Account {
+        accumulator: 0,
+        rollover: 0,
+        count: 0,
+    };
+    zero_totals(false, none)
+}
+
+// The packet check of the known header and the first seven bytes of a reply.
+fn reply_check(reply: &[u8]) -> u8
+    requires { ⌜ length (now reply) ≡ 8 ⌝ }
+    ensures { λ r. ⌜ r ≡ replyCheck (now (reply .entry)) ⌝ }
+{
+    let header = pec::pec_byte(pec::pec_byte(pec::pec_byte(0, 0xC0), 0x86), 0xC1);
+    pec::pec_from(header, &reply[..7])
+}
+
+fn wide(x: u8) -> u32
+    ensures { λ r. ⌜ (r ≡ x) × (r < 256) ⌝ }
+{
+    x as u32
+}
+
+// The account in a reply's bytes.
+fn account_from(reply: &[u8]) -> account::Account
+    requires { ⌜ length (now reply) ≡ 8 ⌝ }
+    ensures { λ r. ⌜ r ≡ accountOf (now (reply .entry)) ⌝ }
+{
+    account::Account {
+        accumulator: (wide(reply[1]) + wide(reply[2]) * 256) as u16,
+        rollover: wide(reply[3]) as u16,
+        count: wide(reply[4]) + wide(reply[5]) * 256 + wide(reply[6]) * 65536,
+    }
+}
+
+// What speaks against a reply by itself, or 0.
+fn reply_answer(reply: &[u8]) -> u8
+    ensures { λ r. ⌜ r ≡ replyAnswer (now (reply .entry)) ⌝ }
+{
+    if reply.len() != 8 {
+        return LENGTH_NOT_EIGHT;
+    }
+    if reply_check(reply) != reply[7] {
+        return PEC_WRONG;
+    }
+    if reply[0] != 6 {
+        return COUNT_BYTE_WRONG;
+    }
+    let a = account_from(reply);
+    if a.accumulator > 0x7FFF {
+        return ACCUMULATOR_TOO_LARGE;
+    }
+    DONE
+}
+
+// Energy as the account shows it, modulo 8,388,608.
+fn energy_reading(a: account::Account) -> u32
+    ensures { λ r. ⌜ r ≡ energyReading a ⌝ }
+{
+    (a.rollover as u32) * 32768 + (a.accumulator as u32)
+}
+
+// How far 23 bit energy readings went forward.
+fn energy_gap(last: u32, new: u32) -> u64
+    requires { ⌜ last < 8388608 ⌝ }
+    ensures { λ r. ⌜ r ≡ gap 8388608 last new ⌝ }
+{
+    (std::num::wrapping_sub_u32(new, last) % 8388608) as u64
+}
+
+// How far 24 bit sample counts went forward.
+fn count_gap(last: u32, new: u32) -> u64
+    requires { ⌜ last < 16777216 ⌝ }
+    ensures { λ r. ⌜ r ≡ gap 16777216 last new ⌝ }
+{
+    (std::num::wrapping_sub_u32(new, last) % 16777216) as u64
+}
+
+// Whether both totals stay below 2^64.
+fn room(t: Totalizer, energy: u64, samples: u64) -> bool
+    ensures { λ r. ⌜ r ≡ (ltb (t .energy + energy) (2 ^ 64) && ltb (t .samples + samples) (2 ^ 64)) ⌝ }
+{
+    (energy <= 18446744073709551615 - t.energy) & (samples <= 18446744073709551615 - t.samples)
+}
+
+// The totals with the differences since the last accepted reply added; closed where one would reach 2^64.
+fn added(t: Totalizer, a: account::Account) -> Taken
+    requires { ⌜ accountValid (t .last) ≡ true ⌝ }
+    ensures { λ r. ⌜ r ≡ added t a ⌝ }
+{
+    let last = t.last;
+    let energy = energy_gap(energy_reading(last), energy_reading(a));
+    let samples = count_gap(last.count, a.count);
+    if room(t, energy, samples) {
+        return Taken {
+            totalizer: Totalizer {
+                started: true,
+                closed: t.closed,
+                last: a,
+                energy: t.energy + energy,
+                samples: t.samples + samples,
+            },
+            answer: DONE,
+        };
+    }
+    Taken {
+        totalizer: Totalizer {
+            started: t.started,
+            closed: true,
+            last: last,
+            energy: t.energy,
+            samples: t.samples,
+        },
+        answer: TOTAL_FULL,
+    }
+}
+
+// The first accepted reply is the start.
+fn start(a: account::Account) -> Taken
+    ensures { λ r. ⌜ r ≡ answered 0 (totalizer true false a 0 0) ⌝ }
+{
+    let t = zero_totals(true, a);
+    Taken {
+        totalizer: t,
+        answer: DONE,
+    }
+}
+
+// An account from a reply that passed its tests: the start, or one more.
+fn booked(t: Totalizer, a: account::Account) -> Taken
+    requires { ⌜ accountValid (t .last) ≡ true ⌝ }
+    ensures { λ r. ⌜ r ≡ booked t a ⌝ }
+{
+    if t.closed {
+        return Taken {
+            totalizer: t,
+            answer: TOTAL_FULL,
+        };
+    }
+    if !t.started {
+        return start(a);
+    }
+    added(t, a)
+}
+
+// One reply: READ_EIN's seven bytes and the PEC.
+pub fn take(t: Totalizer, reply: &[u8]) -> Taken
+    ensures { λ r. ⌜ r ≡ totalize t (now (reply .entry)) ⌝ }
+{
+    let last = t.last;
+    if !account::account_valid(last) {
+        return Taken {
+            totalizer: t,
+            answer: STATE_INVALID,
+        };
+    }
+    let answer = reply_answer(reply);
+    if answer != DONE {
+        return Taken {
+            totalizer: t,
+            answer: answer,
+        };
+    }
+    booked(t, account_from(reply))
+}

@@ -1,0 +1,12 @@
+-- `transaction::valid_protect` meets its contract.
+-- Assumes nothing.
+use Rattle.transaction.specs.Unpaged.{validProtect}
+use Rattle.transaction.proofs.valid_protect.Statement.{statement}
+use Rattle.transaction.proofs.valid_protect.Tie as tie
+
+returns : tie.Need-returns
+unfolding validProtect
+returns c = cc
+
+pub valid-protect-spec : {M : Type 1} → statement M
+valid-protect-spec = tie.close (tie.spec returns)

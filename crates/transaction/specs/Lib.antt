@@ -1,0 +1,5 @@
+pub mod Unpaged
+pub mod Write
+pub mod Reply
+pub mod Read
+pub mod Events
