@@ -7,5 +7,8 @@ fn main() {
     let folder = Path::new(&package).join("../target/staticlib");
     println!("cargo:rustc-link-search=native={}", folder.display());
     println!("cargo:rustc-link-lib=static=tongsorrel");
-    println!("cargo:rerun-if-changed={}", folder.join("libtongsorrel.a").display());
+    println!(
+        "cargo:rerun-if-changed={}",
+        folder.join("libtongsorrel.a").display()
+    );
 }

@@ -26,24 +26,41 @@ fn pec_carried_on_at_any_cut() {
         let length = random.below(LONGEST + 1);
         let bytes = random.bytes(length);
         let crc = random.u8();
-        assert_eq!(library::pec_from(crc, &bytes), pec::pec_from(crc, &bytes), "{crc:02x} {bytes:02x?}");
+        assert_eq!(
+            library::pec_from(crc, &bytes),
+            pec::pec_from(crc, &bytes),
+            "{crc:02x} {bytes:02x?}"
+        );
         let (before, after) = bytes.split_at(random.below(length + 1));
-        assert_eq!(library::pec_from(library::pec(before), after), library::pec(&bytes), "{before:02x?} {after:02x?}");
+        assert_eq!(
+            library::pec_from(library::pec(before), after),
+            library::pec(&bytes),
+            "{before:02x?} {after:02x?}"
+        );
     }
-    println!("  PEC carried on: {STRINGS} strings from any start value, each cut in two as well, agree");
+    println!(
+        "  PEC carried on: {STRINGS} strings from any start value, each cut in two as well, agree"
+    );
 }
 
 #[test]
 fn scaled_value_of_every_word() {
     for word in 0..=u16::MAX {
-        assert_eq!(library::linear11_scaled(word), linear11::scaled(word), "{word:04x}");
+        assert_eq!(
+            library::linear11_scaled(word),
+            linear11::scaled(word),
+            "{word:04x}"
+        );
     }
     println!("  Linear11: all 65,536 values agree");
 }
 
 /// Words to compare all others with: the ends, zeros and ones in every encoding, the power-on limits, and random ones.
 fn partners() -> Vec<u16> {
-    let mut words = vec![0x7C00, 0x7BFF, 0x8001, 0x87FF, 0x0000, 0xD280, 0xEB70, 0xEEC0, 0xD3FF, 0xC3F5, 0x0001, 0xF802];
+    let mut words = vec![
+        0x7C00, 0x7BFF, 0x8001, 0x87FF, 0x0000, 0xD280, 0xEB70, 0xEEC0, 0xD3FF, 0xC3F5, 0x0001,
+        0xF802,
+    ];
     // Equal values with different encodings: zero at every exponent; 1 as 2^k times 2^-k, k at most 9; -1, k at most 10.
     words.extend((0..32).map(|exponent: u16| exponent << 11));
     words.extend((0..=9).map(|k: u16| (32 - k) % 32 << 11 | 1 << k));
@@ -66,7 +83,11 @@ fn order_of_every_word_with_some_hundred() {
                 Ordering::Greater => 2,
             };
             assert_eq!(library::linear11_compare(a, b), expected, "{a:04x} {b:04x}");
-            assert_eq!(library::linear11_compare(b, a), 2 - expected, "{b:04x} {a:04x}");
+            assert_eq!(
+                library::linear11_compare(b, a),
+                2 - expected,
+                "{b:04x} {a:04x}"
+            );
             seen[usize::from(expected)] += 1;
             other_encoding += u64::from(expected == 1 && a != b);
         }
