@@ -11,16 +11,18 @@ use lib.ListN.{length, length-append}
 use borrow.Author.Tests.{ltb-true, ltb-false, le-ltb}
 use Rattle.laws.proofs.Branches.{either}
 use Rattle.account.specs.declared.Account.{Account}
+use Rattle.account.specs.Account.{energyReading}
+use Rattle.account.proofs.Laws.{in-range}
 use Rattle.totalizer.specs.declared.Totalizer.{Totalizer}
 use Rattle.totalizer.specs.declared.Taken.{Taken}
-use Rattle.totalizer.specs.Totalizer.{totalizer, answered, energyReading, gap, nextEnergy, nextSamples, added, totalize}
-use Rattle.totalizer.proofs.Outcomes.{in-range, reading-lt, refused-closed, start, later}
+use Rattle.totalizer.specs.Totalizer.{totalizer, answered, gap, nextEnergy, nextSamples, added, totalize}
+use Rattle.totalizer.proofs.Outcomes.{reading-lt, refused-closed, start, later}
 use Rattle.energy.specs.Reply.{intact, energyReply}
 use Rattle.energy.specs.Events.{Entry, got}
 use Rattle.energy.specs.Tally.{isIntact, isAccepted, some, upTo, since, sinceFirst, sumOf, SumAndNumber, tally, samplesBetween, inBounds}
 use Rattle.energy.specs.Claim.{answerDue}
-use Rattle.energy.proofs.Copies.{valid, intact-booked}
-use Rattle.energy.proofs.Samples.{sum-append, none-yet, split}
+use Rattle.energy.proofs.Copies.{intact-booked}
+use Rattle.energy.proofs.Parts.{sum-append, none-yet, split}
 use Rattle.energy.proofs.Invariant.{Open, Shut, Over, Kept, totalsOf, copied}
 
 -- ---- two numbers below 2^64
@@ -77,8 +79,8 @@ module _ (a : Account) (t : Totalizer) (h : List Entry) (g : Kept a t h) where
           same-some = refl;
           same-since = refl;
           latest = refl;
-          energy-is = omega (arith, reading-lt a (valid a (g .in-range)));
-          count-is = omega (arith, g .in-range);
+          energy-is = omega (arith, reading-lt a (g .account-valid));
+          count-is = omega (arith, in-range a (g .account-valid));
         }
 
     -- ---- the first
@@ -92,7 +94,7 @@ module _ (a : Account) (t : Totalizer) (h : List Entry) (g : Kept a t h) where
       unfolding samplesBetween answerDue
       after-start =
           let k = answered 0 (accepted false 0 0) in
-          copied a t h g intact k (rw (zero-tally k)) (valid a (g .in-range))
+          copied a t h g intact k (rw (zero-tally k)) (g .account-valid)
           (record { total = sym (zero-tally k); samples = λ e. rw (none-yet isAccepted h (sym (o .same-some) ∙ none)) })
           (inl (open-again false 0 0 refl))
 
@@ -143,7 +145,7 @@ module _ (a : Account) (t : Totalizer) (h : List Entry) (g : Kept a t h) where
       unfolding answerDue
       after-later e =
           let u = accepted (t .closed) (nextEnergy t a) (nextSamples t a) in
-          copied a t h g intact (answered 0 u) (rw (sym (next-tally (answered 0 u)), e)) (valid a (g .in-range))
+          copied a t h g intact (answered 0 u) (rw (sym (next-tally (answered 0 u)), e)) (g .account-valid)
           (record { total = next-tally (answered 0 u); samples = plain u })
           (inl (open-again (t .closed) (nextEnergy t a) (nextSamples t a) (o .is-open)))
 
@@ -160,7 +162,7 @@ module _ (a : Account) (t : Totalizer) (h : List Entry) (g : Kept a t h) where
   pub after-intact : Kept a (totalize t (energyReply a) .totalizer) (got intact (totalize t (energyReply a)) ∷ h)
   unfolding added
   after-intact =
-      rw (intact-booked t a (g .last-valid) (g .in-range))
+      rw (intact-booked t a (g .last-valid) (g .account-valid))
       (⊎-elim
       (λ o.
       either (t .started)

@@ -11,16 +11,15 @@ use lib.ListN.{length}
 use borrow.Author.Tests.{ltb-true}
 use Rattle.laws.proofs.Branches.{either}
 use Rattle.account.specs.declared.Account.{Account}
-use Rattle.account.specs.Account.{account, accountValid, sampled}
+use Rattle.account.specs.Account.{account, accountValid, sampled, energyReading}
+use Rattle.account.proofs.Laws.{added-valid, added-energy, added-count}
 use Rattle.totalizer.specs.declared.Totalizer.{Totalizer}
 use Rattle.totalizer.specs.declared.Taken.{Taken}
-use Rattle.totalizer.specs.Totalizer.{answered, freshTotalizer, energyReading}
-use Rattle.totalizer.proofs.Outcomes.{InRange}
+use Rattle.totalizer.specs.Totalizer.{answered, freshTotalizer}
 use Rattle.energy.specs.Reply.{Copy, changed}
 use Rattle.energy.specs.Events.{Entry, got, Log, freshLog, logSample}
 use Rattle.energy.specs.Tally.{isIntact, isAccepted, some, upTo, since, sumOf, SumAndNumber, tally, samplesBetween, inBounds}
 use Rattle.energy.specs.Claim.{answerDue, AtEachCopy}
-use Rattle.energy.proofs.Samples.{added-in-range, added-reading, added-count}
 
 -- while the totalizer is open, every intact copy was accepted, and the account has gone on from the last one by the samples since
 pub record Open (a : Account) (t : Totalizer) (h : List Entry) : Type 0 where
@@ -51,7 +50,7 @@ pub record Totalled (t : Totalizer) (h : List Entry) : Type 0 where
   pub samples : inBounds h ≡ true → totalsOf t ≡ samplesBetween h
 
 pub record Kept (a : Account) (t : Totalizer) (h : List Entry) : Type 0 where
-  pub in-range : InRange a
+  pub account-valid : accountValid a ≡ true
   pub last-valid : accountValid (t .last) ≡ true
   pub totalled : Totalled t h
   pub state : Open a t h ⊎ Shut t h
@@ -64,7 +63,7 @@ pub at-start : Good (account 0 0 0) freshLog
 unfolding freshTotalizer accountValid AtEachCopy tally samplesBetween energyReading
 at-start =
     record {
-      in-range = omega arith;
+      account-valid = refl;
       last-valid = refl;
       totalled = record { total = refl; samples = λ e. refl };
       state = inl (record { is-open = refl; begun = refl; same-some = refl; same-since = refl; latest = refl; energy-is = refl; count-is = refl });
@@ -81,7 +80,7 @@ after-sample a l n g =
     let small : n < 32768 = ltb-true n 32768 e in
     rw e
     (record {
-      in-range = added-in-range a n (g .in-range) small;
+      account-valid = added-valid a n (g .account-valid) small;
       last-valid = g .last-valid;
       totalled = record { total = g .totalled .total; samples = g .totalled .samples };
       state =
@@ -94,8 +93,8 @@ after-sample a l n g =
             same-some = o .same-some;
             same-since = ap (λ (l : List ℕ). n ∷ l) (o .same-since);
             latest = o .latest;
-            energy-is = omega (arith, o .energy-is, added-reading a n (g .in-range) small);
-            count-is = omega (arith, o .count-is, added-count a n (g .in-range) small);
+            energy-is = omega (arith, o .energy-is, added-energy a n (g .account-valid) small);
+            count-is = omega (arith, o .count-is, added-count a n);
           }))
           (λ s. inr (record { is-shut = s .is-shut; begun = s .begun; over = s .over })) (g .state);
       claims = g .claims;
@@ -112,7 +111,7 @@ module _ (a : Account) (t : Totalizer) (h : List Entry) (g : Kept a t h) where
   unfolding AtEachCopy
   copied c k e l b s =
       record {
-        in-range = g .in-range;
+        account-valid = g .account-valid;
         last-valid = l;
         totalled = b;
         state = s;

@@ -1,5 +1,5 @@
 pub mod Copies
-pub mod Samples
+pub mod Parts
 pub mod Invariant
 pub mod Intact
 pub mod Claim

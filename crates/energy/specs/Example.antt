@@ -4,8 +4,8 @@ use mathlib.Core.Path.{_≡_, refl}
 use mathlib.Core.Bool.{true, false}
 use mathlib.Core.List.{List, [], _∷_}
 use Rattle.pec.specs.Pec.{pec, pecFrom, pecByte, pecBit}
-use Rattle.account.specs.Account.{account, accountValid, added, sampled, einBytes, accountOf}
-use Rattle.totalizer.specs.Totalizer.{totalizer, answered, freshTotalizer, energyReading, replyCheck, replyAnswer, nextEnergy, nextSamples, booked, totalize}
+use Rattle.account.specs.Account.{account, accountValid, added, sampled, energyReading, einBytes, accountOf}
+use Rattle.totalizer.specs.Totalizer.{totalizer, answered, freshTotalizer, replyCheck, replyAnswer, nextEnergy, nextSamples, booked, totalize}
 use Rattle.totalizer.specs.Totalizer as totalizing
 use Rattle.energy.specs.Reply.{intact, changed, energyReply}
 use Rattle.energy.specs.Events.{Event, sample, read, took, got, logCopies, run, powerOn}

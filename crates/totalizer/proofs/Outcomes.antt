@@ -5,36 +5,17 @@ use mathlib.Core.Path.{_≡_, refl}
 use mathlib.Core.Bool.{Bool, true, false, _&&_}
 use mathlib.Core.List.{List}
 use native.Mathlib.Omega.{arith}
-use lib.Dec.{ltb, leb, eqb}
+use lib.Dec.{ltb, leb}
 use lib.ListN.{length, getD}
-use borrow.Author.Tests.{ltb-true, ltb-false, lt-ltb, le-ltb, le-leb, lt-leb, eqb-true, eq-eqb, ne-eqb}
+use borrow.Author.Tests.{ltb-true, ltb-false, lt-ltb, le-ltb, le-leb, lt-leb, eq-eqb, ne-eqb}
 use Rattle.laws.proofs.Branches.{either}
 use Rattle.account.specs.declared.Account.{Account}
-use Rattle.account.specs.Account.{accountValid, accountOf}
+use Rattle.account.specs.Account.{accountValid, energyReading, accountOf}
+use Rattle.account.proofs.Laws.{in-range}
 use Rattle.totalizer.specs.declared.Totalizer.{Totalizer}
-use Rattle.totalizer.specs.Totalizer.{totalizer, answered, energyReading, replyCheck, replyAnswer, added, booked}
+use Rattle.totalizer.specs.Totalizer.{totalizer, answered, replyCheck, replyAnswer, added, booked}
 
--- ---- a valid account is in range
-
-both-true : (a b : Bool) → (a && b) ≡ true → (a ≡ true) × (b ≡ true)
-both-true true b e = (refl, e)
-both-true false b e = absurd (let z : _≡_ {A = ℕ} 0 1 = cc in omega arith)
-
-pub record InRange (a : Account) : Type 0 where
-  pub accumulator-lt : a .accumulator < 32768
-  pub rollover-lt : a .rollover < 256
-  pub count-lt : a .count < 16777216
-
-pub in-range : (a : Account) → accountValid a ≡ true → InRange a
-unfolding accountValid
-in-range a v =
-    let p = both-true (ltb (a .accumulator) 32768 && ltb (a .rollover) 256) (ltb (a .count) 16777216) v in
-    let q = both-true (ltb (a .accumulator) 32768) (ltb (a .rollover) 256) (p .0) in
-    record {
-      accumulator-lt = ltb-true _ _ (q .0);
-      rollover-lt = ltb-true _ _ (q .1);
-      count-lt = ltb-true _ _ (p .1);
-    }
+-- ---- a valid account's reading has 23 bits
 
 pub reading-lt : (a : Account) → accountValid a ≡ true → energyReading a < 8388608
 unfolding energyReading
@@ -60,10 +41,6 @@ module _ (s : List ℕ) (l : length s ≡ 8) where
     unfolding replyAnswer
     passes k m = rw (eq-eqb _ _ l, eq-eqb _ _ h, eq-eqb _ _ k, le-ltb _ _ m)
 
-pub eight : (s : List ℕ) → replyAnswer s ≡ 0 → length s ≡ 8
-unfolding replyAnswer
-eight s h = either (eqb (length s) 8) (λ e. eqb-true _ _ e) (λ e. absurd (let z = rw e at h in omega arith))
-
 -- ---- a total of 64 bits
 
 -- the code's test for a sum below 2^64, with no sum that wraps
@@ -72,6 +49,10 @@ fits-test t n h =
     either (ltb (t + n) (2 ^ 64))
     (λ e. let k : t + n < 2 ^ 64 = ltb-true _ _ e in rw e (le-leb n (18446744073709551615 - t) (omega arith)))
     (λ e. let k : 2 ^ 64 ≤ t + n = ltb-false _ _ e in rw e (lt-leb n (18446744073709551615 - t) (omega arith)))
+
+both-true : (a b : Bool) → (a && b) ≡ true → (a ≡ true) × (b ≡ true)
+both-true true b e = (refl, e)
+both-true false b e = absurd (let z : _≡_ {A = ℕ} 0 1 = cc in omega arith)
 
 pub both-below : (x y : ℕ) → (ltb x (2 ^ 64) && ltb y (2 ^ 64)) ≡ true → (x < 2 ^ 64) × (y < 2 ^ 64)
 both-below x y e = let p = both-true (ltb x (2 ^ 64)) (ltb y (2 ^ 64)) e in (ltb-true _ _ (p .0), ltb-true _ _ (p .1))

@@ -1,13 +1,13 @@
 -- The host's totalizer (document 01, 'Energy account' and answers 15 and 20 to 24): what one reply does to it.
 -- Assumes nothing.
-use Prim.Native.Nat.{ℕ, _+_, _*_, _-_, _%_, _^_}
+use Prim.Native.Nat.{ℕ, _+_, _-_, _%_, _^_}
 use mathlib.Core.Bool.{Bool, true, false, cond, _&&_, not}
 use mathlib.Core.List.{List, _∷_}
 use lib.Dec.{ltb, eqb}
 use lib.ListN.{length, take, getD}
 use Rattle.pec.specs.Pec.{pec}
 use Rattle.account.specs.declared.Account.{Account}
-use Rattle.account.specs.Account.{account, accountValid, accountOf}
+use Rattle.account.specs.Account.{account, accountValid, energyReading, accountOf}
 use Rattle.totalizer.specs.declared.Totalizer.{Totalizer}
 use Rattle.totalizer.specs.declared.Taken.{Taken}
 
@@ -20,10 +20,6 @@ answered n t = record { totalizer = t; answer = n }
 -- "fresh, it has accepted nothing, isn't closed, totals 0, and its fields for the last accepted reply 0"
 unfoldable pub freshTotalizer : Totalizer
 freshTotalizer = totalizer false false (account 0 0 0) 0 0
-
--- "rollover times 32768 plus accumulator"
-unfoldable pub energyReading : Account → ℕ
-energyReading a = a .rollover * 32768 + a .accumulator
 
 -- "the difference .. modulo": how far a number that wraps at m went forward from last to new
 abbrev pub gap : ℕ → ℕ → ℕ → ℕ

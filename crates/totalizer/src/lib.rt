@@ -5,8 +5,8 @@ ghost use mathlib.Core.Bool.{true, false, _&&_};
 ghost use Prim.Native.Nat.{_+_, _<_, _^_};
 ghost use lib.Dec.{ltb};
 ghost use lib.ListN.{length};
-ghost use Rattle.account.specs.Account.{accountValid, accountOf};
-ghost use Rattle.totalizer.specs.Totalizer.{totalizer, answered, freshTotalizer, energyReading, gap, replyCheck, replyAnswer, added, booked, totalize};
+ghost use Rattle.account.specs.Account.{accountValid};
+ghost use Rattle.totalizer.specs.Totalizer.{totalizer, answered, freshTotalizer, gap, replyCheck, replyAnswer, added, booked, totalize};
 
 #[repr(C)]
 pub struct Totalizer {
@@ -77,24 +77,6 @@ fn reply_check(reply: &[u8]) -> u8
     pec::pec_from(header, &reply[..7])
 }
 
-fn wide(x: u8) -> u32
-    ensures { λ r. ⌜ (r ≡ x) × (r < 256) ⌝ }
-{
-    x as u32
-}
-
-// The account in a reply's bytes.
-fn account_from(reply: &[u8]) -> account::Account
-    requires { ⌜ length (now reply) ≡ 8 ⌝ }
-    ensures { λ r. ⌜ r ≡ accountOf (now (reply .entry)) ⌝ }
-{
-    account::Account {
-        accumulator: (wide(reply[1]) + wide(reply[2]) * 256) as u16,
-        rollover: wide(reply[3]) as u16,
-        count: wide(reply[4]) + wide(reply[5]) * 256 + wide(reply[6]) * 65536,
-    }
-}
-
 // What speaks against a reply by itself, or 0.
 fn reply_answer(reply: &[u8]) -> u8
     ensures { λ r. ⌜ r ≡ replyAnswer (now (reply .entry)) ⌝ }
@@ -108,18 +90,11 @@ fn reply_answer(reply: &[u8]) -> u8
     if reply[0] != 6 {
         return COUNT_BYTE_WRONG;
     }
-    let a = account_from(reply);
+    let a = account::account_from(reply);
     if a.accumulator > 0x7FFF {
         return ACCUMULATOR_TOO_LARGE;
     }
     DONE
-}
-
-// Energy as the account shows it, modulo 8,388,608.
-fn energy_reading(a: account::Account) -> u32
-    ensures { λ r. ⌜ r ≡ energyReading a ⌝ }
-{
-    (a.rollover as u32) * 32768 + (a.accumulator as u32)
 }
 
 // How far 23 bit energy readings went forward.
@@ -151,7 +126,7 @@ fn added(t: Totalizer, a: account::Account) -> Taken
     ensures { λ r. ⌜ r ≡ added t a ⌝ }
 {
     let last = t.last;
-    let energy = energy_gap(energy_reading(last), energy_reading(a));
+    let energy = energy_gap(account::energy_reading(last), account::energy_reading(a));
     let samples = count_gap(last.count, a.count);
     if room(t, energy, samples) {
         return Taken {
@@ -223,5 +198,5 @@ pub fn take(t: Totalizer, reply: &[u8]) -> Taken
             answer: answer,
         };
     }
-    booked(t, account_from(reply))
+    booked(t, account::account_from(reply))
 }

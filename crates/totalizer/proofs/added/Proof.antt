@@ -4,8 +4,10 @@ use Prim.Native.Nat.{_+_}
 use mathlib.Core.Path.{_≡_, sym, _∙_}
 use native.Mathlib.Omega.{arith}
 use borrow.Author.Needs.{needs}
-use Rattle.totalizer.specs.Totalizer.{energyReading, gap, added, nextEnergy, nextSamples}
-use Rattle.totalizer.proofs.Outcomes.{in-range, reading-lt, both-below}
+use Rattle.account.specs.Account.{energyReading}
+use Rattle.account.proofs.Laws.{in-range}
+use Rattle.totalizer.specs.Totalizer.{gap, added, nextEnergy, nextSamples}
+use Rattle.totalizer.proofs.Outcomes.{reading-lt, both-below}
 use Rattle.totalizer.proofs.added.Statement.{statement}
 use Rattle.totalizer.proofs.added.Tie as tie
 

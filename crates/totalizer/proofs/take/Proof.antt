@@ -4,7 +4,6 @@ use mathlib.Core.Path.{sym, _∙_}
 use borrow.Author.Tests.{not-true, not-false, ne-eqb, eq-eqb}
 use borrow.Author.Needs.{needs}
 use Rattle.totalizer.specs.Totalizer.{totalize}
-use Rattle.totalizer.proofs.Outcomes.{eight}
 use Rattle.totalizer.proofs.take.Statement.{statement}
 use Rattle.totalizer.proofs.take.Tie as tie
 
@@ -25,9 +24,7 @@ returns-2 c =
     rw (sym (z .before .account-valid .ensures) ∙ not-false _ (z .if1 .left), sym (c .before .reply-answer .ensures), ne-eqb _ _ (c .if2 .taken))
 
 account-from-requires : tie.Need-account-from-requires
-account-from-requires c κs =
-    let s = c .before .before .before .before .before .before .args .reply .now in
-    eight s (sym (c .before .reply-answer .ensures) ∙ c .if2 .left)
+account-from-requires c κs = search needs
 
 booked-requires : tie.Need-booked-requires
 booked-requires c κs =
