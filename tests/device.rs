@@ -156,7 +156,8 @@ fn random_runs_from_power_on() {
     changes.print();
 }
 
-/// Every code with every length, PEC right and wrong, on a state where nothing is protected; every read with every small n.
+/// At each level of WRITE_PROTECT: every code written with every first data byte and 0 to 4 data bytes, without and with the
+/// right PEC, and read with every small n.
 #[test]
 fn every_code_at_every_length() {
     let mut random = Random::new(12);

@@ -63,8 +63,8 @@ fn partners() -> Vec<u16> {
     ];
     // Equal values with different encodings: zero at every exponent; 1 as 2^k times 2^-k, k at most 9; -1, k at most 10.
     words.extend((0..32).map(|exponent: u16| exponent << 11));
-    words.extend((0..=9).map(|k: u16| (32 - k) % 32 << 11 | 1 << k));
-    words.extend((0..=10).map(|k: u16| (32 - k) % 32 << 11 | (0x800 - (1 << k)) & 0x7FF));
+    words.extend((0..=9).map(|k: u16| ((32 - k) % 32) << 11 | 1 << k));
+    words.extend((0..=10).map(|k: u16| ((32 - k) % 32) << 11 | (0x800 - (1 << k)) & 0x7FF));
     let mut random = Random::new(3);
     words.extend((0..235).map(|_| random.u16()));
     words
