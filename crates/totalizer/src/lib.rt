@@ -22,6 +22,7 @@ pub struct Totalizer {
 }
 
 // The totalizer after a reply, and the answer number.
+#[repr(C)]
 pub struct Taken {
     pub totalizer: Totalizer,
     pub answer: u8,

@@ -43,9 +43,12 @@ fn main() {
     wrote(&[0xC0, 0x7A, 0x80]);
     sampled(32767);
     sampled(32768);
-    let mut reply = [0u8; 4];
-    read_status_word(&mut reply[..1]);
-    read_status_word(&mut reply[..2]);
-    read_status_word(&mut reply[..3]);
-    read_status_word(&mut reply[..4]);
+    let mut one = [0u8; 1];
+    read_status_word(&mut one);
+    let mut two = [0u8; 2];
+    read_status_word(&mut two);
+    let mut three = [0u8; 3];
+    read_status_word(&mut three);
+    let mut four = [0u8; 4];
+    read_status_word(&mut four);
 }

@@ -1,0 +1,122 @@
+/* The library from C: the nine frames of document 01 through tongsorrel.h, the fields they leave, and an energy reply through the totalizer. */
+#include "tongsorrel.h"
+
+#include <stdio.h>
+#include <string.h>
+
+static int failures;
+
+static void expect(bool holds, const char *what) {
+    if (!holds) {
+        printf("  C: FAILED: %s\n", what);
+        failures++;
+    }
+}
+
+/* One frame of document 01 and the line it gives. */
+typedef struct row {
+    const char *frame;
+    const char *line;
+} row;
+
+static const row rows[] = {
+    {"04e803", "00"},
+    {"0300003e2a", "00"},
+    {"0201c07ac1", "0080"},
+    {"0201c078c1", "0060"},
+    {"0501", "00c0"},
+    {"0501", "0eff"},
+    {"01c003", "00"},
+    {"0501", "00c0"},
+    {"0207c086c1", "0006e80300010000"},
+};
+
+enum { ROWS = sizeof rows / sizeof rows[0], LONGEST = 16 };
+
+static size_t bytes_of(const char *text, uint8_t *bytes) {
+    size_t n = 0;
+    for (unsigned value; sscanf(text + 2 * n, "%2x", &value) == 1; n++) bytes[n] = (uint8_t)value;
+    return n;
+}
+
+static uint16_t word(const uint8_t *low) { return (uint16_t)(low[0] | low[1] << 8); }
+
+/* The call that a frame stands for. */
+static tongsorrel_done call(tongsorrel_device device, const uint8_t *frame, size_t length, uint8_t *reply, size_t *n) {
+    *n = 0;
+    switch (frame[0]) {
+    case 1:
+        return tongsorrel_write(device, frame + 1, length - 1);
+    case 2:
+        *n = frame[1];
+        return tongsorrel_read(device, frame + 2, length - 2, reply, *n);
+    case 3:
+        return tongsorrel_measure(device, frame[1], frame[2], word(frame + 3));
+    case 4:
+        return tongsorrel_sample(device, word(frame + 1));
+    default:
+        *n = frame[1];
+        return tongsorrel_alert_response(device, reply, *n);
+    }
+}
+
+static tongsorrel_device frames(tongsorrel_device device) {
+    for (size_t i = 0; i < ROWS; i++) {
+        uint8_t frame[LONGEST], reply[LONGEST];
+        size_t n, length = bytes_of(rows[i].frame, frame);
+        memset(reply, 0x55, sizeof reply);
+        tongsorrel_done done = call(device, frame, length, reply, &n);
+        device = done.device;
+        char line[2 * LONGEST + 3];
+        int end = sprintf(line, "%02x", done.answer);
+        for (size_t k = 0; k < n; k++) end += sprintf(line + end, "%02x", reply[k]);
+        expect(strcmp(line, rows[i].line) == 0, rows[i].frame);
+        expect(reply[n] == 0x55, "nothing is written behind the reply");
+    }
+    return device;
+}
+
+/* What the frames leave, field by field. */
+static void state(const tongsorrel_device *device) {
+    const tongsorrel_unpaged *unpaged = &device->unpaged;
+    const tongsorrel_page *page = &device->pages[0];
+    expect(unpaged->page == 0 && unpaged->protect == 0 && unpaged->cml == 0 && !unpaged->alert, "PAGE, WRITE_PROTECT, CML and the alert");
+    expect(unpaged->energy.accumulator == 1000 && unpaged->energy.rollover == 0 && unpaged->energy.count == 1, "the account");
+    expect(page->operation == 0 && page->command == 0x2666, "OPERATION and VOUT_COMMAND");
+    expect(page->limits[0] == 0x2A3D && page->limits[5] == 0xC3F5, "the limits");
+    expect(page->responses[0] == 0x80 && page->responses[1] == 0xC0 && page->responses[5] == 0x80, "the responses");
+    expect(page->measured[0] && page->words[0] == 0x2A3E && !page->measured[3], "the measurement");
+    expect(page->status[0] == 0x80 && page->status[3] == 0 && page->tripped, "the status and the trip");
+    expect(device->pages[7].limits[0] == 0x2A3D && device->pages[7].status[0] == 0 && !device->pages[7].tripped, "another page");
+}
+
+/* The start, and one more reply with two more samples. */
+static void totalizer(tongsorrel_device device) {
+    static const uint8_t header[] = {0xC0, 0x86, 0xC1};
+    uint8_t reply[8];
+    tongsorrel_taken taken = {tongsorrel_totalizer_fresh(), 0};
+    device = tongsorrel_read(device, header, sizeof header, reply, sizeof reply).device;
+    expect(tongsorrel_pec_from(tongsorrel_pec(header, sizeof header), reply, 7) == reply[7], "the PEC of the energy reply");
+    taken = tongsorrel_totalizer_take(taken.totalizer, reply, sizeof reply);
+    expect(taken.answer == 0 && taken.totalizer.started && taken.totalizer.energy == 0, "the start");
+    device = tongsorrel_sample(device, 32767).device;
+    device = tongsorrel_sample(device, 2).device;
+    device = tongsorrel_read(device, header, sizeof header, reply, sizeof reply).device;
+    taken = tongsorrel_totalizer_take(taken.totalizer, reply, sizeof reply);
+    expect(taken.answer == 0 && taken.totalizer.energy == 32769 && taken.totalizer.samples == 2, "the totals");
+    expect(taken.totalizer.last.accumulator == 1001 && taken.totalizer.last.rollover == 1 && taken.totalizer.last.count == 3, "the last account");
+    reply[3] ^= 0x81;
+    expect(tongsorrel_totalizer_take(taken.totalizer, reply, sizeof reply).answer == 21, "a changed copy");
+}
+
+int main(void) {
+    expect(tongsorrel_pec((const uint8_t *)"123456789", 9) == 0xF4, "PEC of 123456789");
+    expect(tongsorrel_linear11_scaled(0xEEC0) == -40 * 65536, "EEC0h is -40");
+    expect(tongsorrel_linear11_compare(0x7C00, 0x0001) == TONGSORREL_BELOW, "7C00h is below 1");
+    expect(tongsorrel_linear11_compare(0x0001, 0xF802) == TONGSORREL_EQUAL, "0001h equals F802h");
+    tongsorrel_device device = frames(tongsorrel_power_on());
+    state(&device);
+    totalizer(device);
+    if (failures == 0) printf("  C: the nine frames, the state they leave and the totalizer hold through tongsorrel.h\n");
+    return failures != 0;
+}

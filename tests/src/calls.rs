@@ -1,0 +1,263 @@
+//! The five kinds of call: random ones, and one call made on the library and on the second program.
+
+use crate::library::{self, Device};
+use crate::mirror;
+use crate::random::Random;
+use crate::states;
+use reference::command;
+use reference::pec;
+
+#[derive(Clone, Debug, PartialEq, Eq)]
+pub enum Call {
+    Write(Vec<u8>),
+    /// The header, and the number of bytes clocked.
+    Read(Vec<u8>, usize),
+    Measure(u8, u8, u16),
+    Sample(u16),
+    AlertResponse(usize),
+}
+
+pub const KINDS: [&str; 5] = ["write", "read", "measure", "sample", "alert response"];
+
+impl Call {
+    /// The place of the kind in `KINDS`.
+    pub fn kind(&self) -> usize {
+        match self {
+            Call::Write(_) => 0,
+            Call::Read(..) => 1,
+            Call::Measure(..) => 2,
+            Call::Sample(_) => 3,
+            Call::AlertResponse(_) => 4,
+        }
+    }
+
+    /// The length of the reply buffer.
+    fn clocked(&self) -> usize {
+        match *self {
+            Call::Read(_, n) | Call::AlertResponse(n) => n,
+            _ => 0,
+        }
+    }
+}
+
+/// What a call leaves: the state, the answer and the reply buffer.
+#[derive(Clone, Debug, PartialEq, Eq)]
+pub struct Outcome {
+    pub device: Device,
+    pub answer: u8,
+    pub reply: Vec<u8>,
+}
+
+/// Bytes behind the reply buffer, which no call may touch.
+const GUARD: usize = 8;
+
+/// The call on the library. The reply buffer holds `before` in every byte, and so do the bytes behind it.
+pub fn on_library(device: Device, call: &Call, before: u8) -> Outcome {
+    let n = call.clocked();
+    let mut room = vec![before; n + GUARD];
+    let reply = &mut room[..n];
+    let done = match call {
+        Call::Write(bytes) => library::write(device, bytes),
+        Call::Read(header, _) => library::read(device, header, reply),
+        Call::Measure(page, quantity, word) => library::measure(device, *page, *quantity, *word),
+        Call::Sample(sample) => library::sample(device, *sample),
+        Call::AlertResponse(_) => library::alert_response(device, reply),
+    };
+    assert_eq!(
+        room[n..],
+        [before; GUARD],
+        "written behind the reply buffer: {call:02x?}"
+    );
+    room.truncate(n);
+    Outcome {
+        device: done.device,
+        answer: done.answer,
+        reply: room,
+    }
+}
+
+/// The call on the second program.
+pub fn on_reference(device: Device, call: &Call, before: u8) -> Outcome {
+    let mut state = mirror::to_reference(&device);
+    let mut reply = vec![before; call.clocked()];
+    let answer = match call {
+        Call::Write(bytes) => state.write(bytes),
+        Call::Read(header, _) => state.read(header, &mut reply),
+        Call::Measure(page, quantity, word) => state.measure(*page, *quantity, *word),
+        Call::Sample(sample) => state.sample(*sample),
+        Call::AlertResponse(_) => state.alert_response(&mut reply),
+    };
+    Outcome {
+        device: mirror::from_reference(&state),
+        answer,
+        reply,
+    }
+}
+
+/// The call on both: fails where state, answer or reply differ.
+pub fn on_both(device: Device, call: &Call, before: u8) -> Outcome {
+    let ours = on_library(device, call, before);
+    let theirs = on_reference(device, call, before);
+    assert_eq!(
+        ours, theirs,
+        "library left, second program right: {call:02x?} on {device:02x?}"
+    );
+    ours
+}
+
+/// A random call, shaped so that on this state every answer is met often.
+pub fn random_call(random: &mut Random, device: &Device) -> Call {
+    match random.below(10) {
+        0..=3 => Call::Write(write(random, device)),
+        4..=6 => read(random),
+        7 => measure(random, device),
+        8 => Call::Sample(sample(random)),
+        _ => Call::AlertResponse(if random.once_in(3) {
+            random.below(12)
+        } else {
+            1
+        }),
+    }
+}
+
+/// A code of the table, or any.
+fn code(random: &mut Random) -> u8 {
+    if random.once_in(8) {
+        random.u8()
+    } else {
+        random.pick(&command::TABLE).code
+    }
+}
+
+/// A code to write: mostly one that is written, and often PAGE, OPERATION or CLEAR_FAULTS.
+fn written_code(random: &mut Random) -> u8 {
+    const WRITTEN: [u8; 17] = [
+        0x00, 0x01, 0x03, 0x10, 0x21, 0x40, 0x41, 0x46, 0x47, 0x4F, 0x50, 0x53, 0x54, 0x55, 0x56,
+        0x59, 0x5A,
+    ];
+    match random.below(8) {
+        0 => code(random),
+        1 | 2 => random.pick(&[0x00, 0x01, 0x03]),
+        _ => random.pick(&WRITTEN),
+    }
+}
+
+/// The data bytes that the table gives a code, or 1.
+fn length(code: u8) -> usize {
+    command::lookup(code).map_or(1, |command| command.data)
+}
+
+/// The page selected, in any state.
+fn selected(device: &Device) -> usize {
+    usize::from(device.unpaged.page % 8)
+}
+
+/// Data that are often valid for the code, and a limit that is often near the measured value.
+fn data(random: &mut Random, device: &Device, code: u8) -> Vec<u8> {
+    let page = &device.pages[selected(device)];
+    let byte = match code {
+        0x00 => random.below(8) as u8,
+        0x01 => random.pick(&[0x00, 0x40, 0x80, 0x80]),
+        0x10 => random.pick(&[0x00, 0x00, 0x00, 0x20, 0x40, 0x80]),
+        0x41 | 0x47 | 0x50 | 0x54 | 0x56 | 0x5A => random.pick(&[0x00, 0x80, 0xC0]),
+        _ => random.u8(),
+    };
+    let measured = match code {
+        0x40 => page.words[0],
+        0x46 => page.words[1],
+        0x4F | 0x53 => page.words[3],
+        _ => page.words[2],
+    };
+    let word = states::near(random, measured).to_le_bytes();
+    match length(code) {
+        0 => vec![],
+        1 if random.once_in(8) => vec![random.u8()],
+        1 => vec![byte],
+        2 => word.to_vec(),
+        other => random.bytes(other),
+    }
+}
+
+/// The bytes of a write transaction: mostly well formed but for one slip.
+fn write(random: &mut Random, device: &Device) -> Vec<u8> {
+    let code = written_code(random);
+    let mut bytes = vec![0xC0, code];
+    bytes.extend(data(random, device, code));
+    if random.bool() {
+        bytes.push(pec::pec(&bytes));
+    }
+    match random.below(16) {
+        0 => bytes.truncate(random.below(bytes.len() + 1)),
+        1 => {
+            let more = 1 + random.below(3);
+            bytes.extend(random.bytes(more));
+        }
+        2 => {
+            let last = bytes.len() - 1;
+            bytes[last] ^= 1 << random.below(8);
+        }
+        3 if random.bool() => bytes[0] = random.pick(&[0xC1, 0x00, 0xC2, 0xFF]),
+        4 if random.once_in(4) => {
+            let length = random.below(301);
+            bytes = random.bytes(length);
+            if random.bool() {
+                bytes.insert(0, 0xC0);
+            }
+        }
+        _ => {}
+    }
+    bytes
+}
+
+/// A read transaction: mostly a whole header, and a number of bytes about that of the data.
+fn read(random: &mut Random) -> Call {
+    let code = code(random);
+    let mut header = vec![0xC0, code, 0xC1];
+    match random.below(16) {
+        0 => header.truncate(random.below(3)),
+        1 => header.push(random.u8()),
+        2 => header[2] = random.pick(&[0xC0, 0x00, 0xC3, 0xFF]),
+        3 => header[0] = random.pick(&[0xC1, 0x00, 0xC2, 0xFF]),
+        4 if random.once_in(4) => {
+            let length = random.below(301);
+            header = random.bytes(length);
+        }
+        _ => {}
+    }
+    let n = match random.below(8) {
+        0 => random.below(301),
+        1 => random.below(12),
+        2 => length(code) + 2,
+        3 => length(code).saturating_sub(1),
+        4 | 5 => length(code),
+        _ => length(code) + 1,
+    };
+    Call::Read(header, n)
+}
+
+/// A measurement, often near a limit of its page.
+fn measure(random: &mut Random, device: &Device) -> Call {
+    let page = match random.below(8) {
+        0 => random.u8(),
+        1..=3 => device.unpaged.page,
+        _ => random.below(8) as u8,
+    };
+    let quantity = if random.once_in(8) {
+        random.u8()
+    } else {
+        random.below(4) as u8
+    };
+    let limits = &device.pages[usize::from(page % 8)].limits;
+    let limit = match quantity {
+        0 => limits[0],
+        1 => limits[1],
+        2 => random.pick(&[limits[4], limits[5]]),
+        _ => random.pick(&[limits[2], limits[3]]),
+    };
+    Call::Measure(page, quantity, states::near(random, limit))
+}
+
+fn sample(random: &mut Random) -> u16 {
+    let any = random.u16();
+    random.pick(&[any, any & 0x7FFF, 0, 1, 32767, 32768])
+}

@@ -1,0 +1,7 @@
+//! What the tests share: the functions of the archive, random inputs, and a call made on both programs.
+
+pub mod calls;
+pub mod library;
+pub mod mirror;
+pub mod random;
+pub mod states;

@@ -1,0 +1,152 @@
+//! libtongsorrel.a: its structs and functions, declared as include/tongsorrel.h declares them, each function behind a safe one.
+//! A slice crosses as a pointer and a length, a struct by value.
+
+/// The energy account.
+#[repr(C)]
+#[derive(Clone, Copy, Debug, PartialEq, Eq)]
+pub struct Account {
+    pub accumulator: u16,
+    pub rollover: u16,
+    pub count: u32,
+}
+
+/// What the device holds beside its pages.
+#[repr(C)]
+#[derive(Clone, Copy, Debug, PartialEq, Eq)]
+pub struct Unpaged {
+    pub page: u8,
+    pub protect: u8,
+    pub cml: u8,
+    pub alert: bool,
+    pub energy: Account,
+}
+
+#[repr(C)]
+#[derive(Clone, Copy, Debug, PartialEq, Eq)]
+pub struct Page {
+    pub operation: u8,
+    pub command: u16,
+    pub limits: [u16; 6],
+    pub responses: [u8; 6],
+    pub words: [u16; 4],
+    pub measured: [bool; 4],
+    pub status: [u8; 4],
+    pub tripped: bool,
+}
+
+#[repr(C)]
+#[derive(Clone, Copy, Debug, PartialEq, Eq)]
+pub struct Device {
+    pub unpaged: Unpaged,
+    pub pages: [Page; 8],
+}
+
+/// The state after a call, and its answer number.
+#[repr(C)]
+#[derive(Clone, Copy, Debug, PartialEq, Eq)]
+pub struct Done {
+    pub device: Device,
+    pub answer: u8,
+}
+
+#[repr(C)]
+#[derive(Clone, Copy, Debug, PartialEq, Eq)]
+pub struct Totalizer {
+    pub started: bool,
+    pub closed: bool,
+    pub last: Account,
+    pub energy: u64,
+    pub samples: u64,
+}
+
+/// The totalizer after a reply, and the answer number.
+#[repr(C)]
+#[derive(Clone, Copy, Debug, PartialEq, Eq)]
+pub struct Taken {
+    pub totalizer: Totalizer,
+    pub answer: u8,
+}
+
+mod archive {
+    use super::{Device, Done, Taken, Totalizer};
+
+    extern "C" {
+        pub fn tongsorrel_pec(bytes: *const u8, length: usize) -> u8;
+        pub fn tongsorrel_pec_from(crc: u8, bytes: *const u8, length: usize) -> u8;
+        pub fn tongsorrel_linear11_scaled(word: u16) -> i64;
+        pub fn tongsorrel_linear11_compare(a: u16, b: u16) -> u8;
+        pub fn tongsorrel_power_on() -> Device;
+        pub fn tongsorrel_write(d: Device, bytes: *const u8, length: usize) -> Done;
+        pub fn tongsorrel_read(
+            d: Device,
+            header: *const u8,
+            header_length: usize,
+            reply: *mut u8,
+            n: usize,
+        ) -> Done;
+        pub fn tongsorrel_measure(d: Device, page: u8, quantity: u8, word: u16) -> Done;
+        pub fn tongsorrel_sample(d: Device, sample: u16) -> Done;
+        pub fn tongsorrel_alert_response(d: Device, reply: *mut u8, n: usize) -> Done;
+        pub fn tongsorrel_totalizer_fresh() -> Totalizer;
+        pub fn tongsorrel_totalizer_take(t: Totalizer, reply: *const u8, length: usize) -> Taken;
+    }
+}
+
+// Each call below hands over a slice's own pointer and length, and plain values: that is all the library asks.
+
+pub fn pec(bytes: &[u8]) -> u8 {
+    unsafe { archive::tongsorrel_pec(bytes.as_ptr(), bytes.len()) }
+}
+
+pub fn pec_from(crc: u8, bytes: &[u8]) -> u8 {
+    unsafe { archive::tongsorrel_pec_from(crc, bytes.as_ptr(), bytes.len()) }
+}
+
+pub fn linear11_scaled(word: u16) -> i64 {
+    unsafe { archive::tongsorrel_linear11_scaled(word) }
+}
+
+/// 0 below, 1 equal, 2 above.
+pub fn linear11_compare(a: u16, b: u16) -> u8 {
+    unsafe { archive::tongsorrel_linear11_compare(a, b) }
+}
+
+pub fn power_on() -> Device {
+    unsafe { archive::tongsorrel_power_on() }
+}
+
+pub fn write(d: Device, bytes: &[u8]) -> Done {
+    unsafe { archive::tongsorrel_write(d, bytes.as_ptr(), bytes.len()) }
+}
+
+pub fn read(d: Device, header: &[u8], reply: &mut [u8]) -> Done {
+    unsafe {
+        archive::tongsorrel_read(
+            d,
+            header.as_ptr(),
+            header.len(),
+            reply.as_mut_ptr(),
+            reply.len(),
+        )
+    }
+}
+
+pub fn measure(d: Device, page: u8, quantity: u8, word: u16) -> Done {
+    unsafe { archive::tongsorrel_measure(d, page, quantity, word) }
+}
+
+pub fn sample(d: Device, sample: u16) -> Done {
+    unsafe { archive::tongsorrel_sample(d, sample) }
+}
+
+pub fn alert_response(d: Device, reply: &mut [u8]) -> Done {
+    unsafe { archive::tongsorrel_alert_response(d, reply.as_mut_ptr(), reply.len()) }
+}
+
+pub fn totalizer_fresh() -> Totalizer {
+    unsafe { archive::tongsorrel_totalizer_fresh() }
+}
+
+pub fn totalizer_take(t: Totalizer, reply: &[u8]) -> Taken {
+    unsafe { archive::tongsorrel_totalizer_take(t, reply.as_ptr(), reply.len()) }
+}

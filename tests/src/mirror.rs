@@ -1,0 +1,92 @@
+//! A state of the library as the second program's and back: every field, and nothing lost.
+
+use crate::library;
+use reference::device::{Account, Device, Page, Reading};
+use reference::totalizer::Totalizer;
+
+fn page_to_reference(page: &library::Page) -> Page {
+    Page {
+        operation: page.operation,
+        vout_command: page.command,
+        limits: page.limits,
+        responses: page.responses,
+        status: page.status,
+        tripped: page.tripped,
+        readings: std::array::from_fn(|quantity| Reading {
+            measured: page.measured[quantity],
+            word: page.words[quantity],
+        }),
+    }
+}
+
+fn page_from_reference(page: &Page) -> library::Page {
+    library::Page {
+        operation: page.operation,
+        command: page.vout_command,
+        limits: page.limits,
+        responses: page.responses,
+        words: page.readings.map(|reading| reading.word),
+        measured: page.readings.map(|reading| reading.measured),
+        status: page.status,
+        tripped: page.tripped,
+    }
+}
+
+pub fn to_reference(device: &library::Device) -> Device {
+    let unpaged = &device.unpaged;
+    Device {
+        page: unpaged.page,
+        protect: unpaged.protect,
+        cml: unpaged.cml,
+        alert: unpaged.alert,
+        account: Account {
+            accumulator: unpaged.energy.accumulator,
+            rollover: unpaged.energy.rollover,
+            samples: unpaged.energy.count,
+        },
+        pages: std::array::from_fn(|index| page_to_reference(&device.pages[index])),
+    }
+}
+
+pub fn from_reference(device: &Device) -> library::Device {
+    library::Device {
+        unpaged: library::Unpaged {
+            page: device.page,
+            protect: device.protect,
+            cml: device.cml,
+            alert: device.alert,
+            energy: library::Account {
+                accumulator: device.account.accumulator,
+                rollover: device.account.rollover,
+                count: device.account.samples,
+            },
+        },
+        pages: std::array::from_fn(|index| page_from_reference(&device.pages[index])),
+    }
+}
+
+pub fn totalizer_to_reference(totalizer: &library::Totalizer) -> Totalizer {
+    Totalizer {
+        started: totalizer.started,
+        closed: totalizer.closed,
+        last_accumulator: totalizer.last.accumulator,
+        last_rollover: totalizer.last.rollover,
+        last_count: totalizer.last.count,
+        energy: totalizer.energy,
+        samples: totalizer.samples,
+    }
+}
+
+pub fn totalizer_from_reference(totalizer: &Totalizer) -> library::Totalizer {
+    library::Totalizer {
+        started: totalizer.started,
+        closed: totalizer.closed,
+        last: library::Account {
+            accumulator: totalizer.last_accumulator,
+            rollover: totalizer.last_rollover,
+            count: totalizer.last_count,
+        },
+        energy: totalizer.energy,
+        samples: totalizer.samples,
+    }
+}

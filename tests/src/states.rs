@@ -1,0 +1,166 @@
+//! Random states of the device, most of which no run reaches.
+
+use crate::library::{Account, Device, Page, Unpaged};
+use crate::random::Random;
+
+/// Response 47 is the second.
+const IOUT_OC: usize = 1;
+/// The quantity that each of the six causes looks at.
+const QUANTITY: [usize; 6] = [0, 1, 3, 3, 2, 2];
+
+/// A word: any, an end or a limit of the document, or a small one.
+pub fn word(random: &mut Random) -> u16 {
+    const KNOWN: [u16; 16] = [
+        0x0000, 0x0001, 0x7C00, 0x7BFF, 0x8001, 0x87FF, 0x0400, 0x03FF, 0x2666, 0x2A3D, 0x2A3E,
+        0xD280, 0xEB70, 0xEEC0, 0xD3FF, 0xC3F5,
+    ];
+    match random.below(3) {
+        0 => random.u16(),
+        1 => random.pick(&KNOWN),
+        _ => random.u16() & 0x001F,
+    }
+}
+
+/// A word whose value is at or about that of `word`: the same, its neighbours, the same Linear11 value at another exponent, or any.
+pub fn near(random: &mut Random, word: u16) -> u16 {
+    match random.below(6) {
+        0 | 1 => word,
+        2 => word.wrapping_add(1),
+        3 => word.wrapping_sub(1),
+        4 if word & 1 == 0 => {
+            let mantissa = word & 0x7FF;
+            (word & 0xF800).wrapping_add(0x0800) | mantissa >> 1 | mantissa & 0x400
+        }
+        _ => self::word(random),
+    }
+}
+
+pub fn response(random: &mut Random, cause: usize) -> u8 {
+    if cause == IOUT_OC {
+        random.pick(&[0x00, 0xC0])
+    } else {
+        random.pick(&[0x00, 0x80, 0xC0])
+    }
+}
+
+/// None, one or any bits.
+fn register(random: &mut Random) -> u8 {
+    match random.below(4) {
+        0 | 1 => 0,
+        2 => 1 << random.below(8),
+        _ => random.u8(),
+    }
+}
+
+fn page(random: &mut Random) -> Page {
+    const POWER_ON: [u16; 6] = [0x2A3D, 0xD280, 0xEB70, 0xEEC0, 0xD3FF, 0xC3F5];
+    let limits: [u16; 6] = std::array::from_fn(|cause| {
+        if random.bool() {
+            POWER_ON[cause]
+        } else {
+            word(random)
+        }
+    });
+    let mut words = [0; 4];
+    for cause in 0..6 {
+        if words[QUANTITY[cause]] == 0 || random.bool() {
+            words[QUANTITY[cause]] = near(random, limits[cause]);
+        }
+    }
+    Page {
+        operation: random.pick(&[0x00, 0x40, 0x80, 0x80]),
+        command: word(random),
+        limits,
+        responses: std::array::from_fn(|cause| response(random, cause)),
+        words,
+        measured: std::array::from_fn(|_| !random.once_in(4)),
+        status: std::array::from_fn(|_| register(random)),
+        tripped: random.once_in(4),
+    }
+}
+
+/// An account in range, often at an end of it.
+pub fn account(random: &mut Random) -> Account {
+    let any = (
+        random.u16() & 0x7FFF,
+        random.u16() & 0xFF,
+        random.u32() & 0xFF_FFFF,
+    );
+    Account {
+        accumulator: random.pick(&[any.0, any.0, 0, 0x7FFF]),
+        rollover: random.pick(&[any.1, any.1, 0, 255]),
+        count: random.pick(&[any.2, any.2, 0, 0xFF_FFFF]),
+    }
+}
+
+/// A state that gets no answer 15; every other field holds anything.
+pub fn valid(random: &mut Random) -> Device {
+    Device {
+        unpaged: Unpaged {
+            page: random.below(8) as u8,
+            protect: random.pick(&[0x00, 0x00, 0x00, 0x20, 0x40, 0x80]),
+            cml: register(random),
+            alert: random.bool(),
+            energy: account(random),
+        },
+        pages: std::array::from_fn(|_| page(random)),
+    }
+}
+
+/// An account with one field beyond its range.
+pub fn account_beyond(random: &mut Random) -> Account {
+    let mut account = account(random);
+    let any = random.u32();
+    match random.below(3) {
+        0 => account.accumulator = random.pick(&[0x8000, 0xFFFF, any as u16 | 0x8000]),
+        1 => account.rollover = random.pick(&[0x0100, 0xFFFF, any as u16 | 0x0400]),
+        _ => account.count = random.pick(&[0x0100_0000, u32::MAX, any | 0x0200_0000]),
+    }
+    account
+}
+
+/// A valid state but for one field, which makes it one for answer 15.
+pub fn one_field_invalid(random: &mut Random) -> Device {
+    let mut device = valid(random);
+    let page = random.below(8);
+    match random.below(5) {
+        0 => device.unpaged.page = random.pick(&[8, 9, 0x80, 0xFF]),
+        1 => device.unpaged.protect = random.pick(&[0x01, 0x10, 0x21, 0x60, 0xA0, 0xC0, 0xFF]),
+        2 => device.unpaged.energy = account_beyond(random),
+        3 => device.pages[page].operation = random.pick(&[0x01, 0x20, 0x41, 0x81, 0xC0, 0xFF]),
+        _ => {
+            let cause = random.below(6);
+            let other_code = if cause == IOUT_OC { 0x80 } else { 0x40 };
+            device.pages[page].responses[cause] =
+                random.pick(&[other_code, 0x01, 0x20, 0x81, 0xC1, 0xFF]);
+        }
+    }
+    device
+}
+
+/// Every field at random.
+pub fn anything(random: &mut Random) -> Device {
+    Device {
+        unpaged: Unpaged {
+            page: random.u8(),
+            protect: random.u8(),
+            cml: random.u8(),
+            alert: random.bool(),
+            energy: Account {
+                accumulator: random.u16(),
+                rollover: random.u16(),
+                count: random.u32(),
+            },
+        },
+        pages: std::array::from_fn(|_| Page {
+            operation: random.u8(),
+            command: random.u16(),
+            limits: std::array::from_fn(|_| random.u16()),
+            responses: std::array::from_fn(|_| random.u8()),
+            words: std::array::from_fn(|_| random.u16()),
+            measured: std::array::from_fn(|_| random.bool()),
+            status: std::array::from_fn(|_| random.u8()),
+            tripped: random.bool(),
+        }),
+    }
+}
