@@ -50,8 +50,7 @@ module _ (d : Device) (l : Log) (g : Good (energyOf d) l) where
       (λ e.
       let copies : AreCopies (step d (read header n) .reply) cs = rw e at m in
       let same = the-reply d header n e in
-      rw e
-      (rw same (after-copies (energyOf d) l cs (rw same at copies) g)))
+      rw (e, same) (after-copies (energyOf d) l cs (rw same at copies) g))
       (λ e. rw e g)
 
   after-call : (c : Call) (cs : List Copy) → CopiesOf cs (partOf c (step d c)) → Good (energyOf (next d c)) (logPart l cs (partOf c (step d c)))

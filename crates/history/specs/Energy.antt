@@ -27,7 +27,7 @@ pub data Part : Type 0 where
   energyReply : List ℕ → Part
   none : Part
 
--- "An energy reply is the eight bytes left by a read of 86h with n 8 and answer 0"
+-- "An energy reply is the eight bytes left by a read of 86h with n 8 and answer 0"; with answer 0 the header is C0h, 86h, C1h
 abbrev pub isEnergyReply : List ℕ → ℕ → Result → Bool
 isEnergyReply header n r = eqb (codeOf header) 0x86 && eqb n 8 && eqb (r .done .answer) 0
 
