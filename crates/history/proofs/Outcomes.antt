@@ -118,6 +118,10 @@ module _ (u : Unpaged) (ps : List Page) (code : ℕ) where
   unfolding alertOfBits
   put-cml = either (clearing code) (λ e. rw (by-clearing e)) (λ e. rw (no-clearing e))
 
+  pub put-energy : clearedAlert u ps code .unpaged .energy ≡ u .energy
+  unfolding alertOfBits
+  put-energy = either (clearing code) (λ e. rw (by-clearing e)) (λ e. rw (no-clearing e))
+
   pub put-valid : unpagedValid (clearedAlert u ps code .unpaged) ≡ unpagedValid u
   unfolding alertOfBits unpagedValid
   put-valid = either (clearing code) (λ e. rw (by-clearing e)) (λ e. rw (no-clearing e))
