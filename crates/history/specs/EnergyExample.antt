@@ -11,8 +11,8 @@ use Rattle.laws.specs.Lists.{Bytes}
 use Rattle.pec.specs.Burst.{bits8, busBits, Changed}
 use Rattle.energy.specs.Reply.{Copy, intact, changed, AreCopies}
 use Rattle.energy.specs.Events.{took, got, freshLog, logCopies}
-use Rattle.account.specs.Account.{account, accountValid, added, sampled, einBytes, accountOf}
-use Rattle.totalizer.specs.Totalizer.{totalizer, answered, freshTotalizer, energyReading, replyCheck, replyAnswer, nextEnergy, nextSamples, booked, totalize}
+use Rattle.account.specs.Account.{account, accountValid, added, sampled, einBytes, accountOf, energyReading}
+use Rattle.totalizer.specs.Totalizer.{totalizer, answered, freshTotalizer, replyCheck, replyAnswer, nextEnergy, nextSamples, booked, totalize}
 use Rattle.totalizer.specs.Totalizer as totalizing
 use Rattle.pec.specs.Pec.{pec, pecFrom, pecByte, pecBit}
 use Rattle.command.specs.Table.{table, entryOf, lookup}
