@@ -16,7 +16,6 @@ use Rattle.energy.proofs.Claim.{after-copies}
 use Rattle.command.specs.Meaning.{commandOf, readingOf}
 use Rattle.transaction.specs.Unpaged.{powerOnUnpaged}
 use Rattle.transaction.specs.Read.{answersData, readData, checked, readStream}
-use Rattle.transaction.specs.Events.{withEnergy}
 use Rattle.device.specs.declared.Device.{Device}
 use Rattle.device.specs.Device.{powerOn, deviceValid}
 use Rattle.device.specs.Step.{Call, write, read, measure, sample, alertResponse, step, readAnswered, sent, readReply, readDone, sampleDone, sampledDone}
@@ -39,7 +38,7 @@ module _ (d : Device) (header : List ℕ) (n : ℕ) where
 
 module _ (d : Device) (l : Log) (g : Good (energyOf d) l) where
   after-sampled : (n : ℕ) → Good (energyOf (next d (sample n))) (logSample l n (answer d (sample n)))
-  unfolding step sampleDone sampledDone withEnergy
+  unfolding step sampleDone sampledDone
   after-sampled n = either (deviceValid d) (λ e. rw (e, next, answer) (after-sample (energyOf d) l n g)) (λ e. rw (e, next, answer) g)
 
   after-read : (header : List ℕ) (n : ℕ) (cs : List Copy) → CopiesOf cs (partOf (read header n) (step d (read header n)))

@@ -21,7 +21,6 @@ use Rattle.page.specs.Page.{powerOnPage}
 use Rattle.page.specs.Settings.{pageValid, validOperation, validResponse}
 use Rattle.transaction.specs.Unpaged.{powerOnUnpaged, validProtect, unpagedValid, refused}
 use Rattle.transaction.specs.Read.{entryAnswer, headerAnswer, readAnswer, answersData, readData, checked, readStream}
-use Rattle.transaction.specs.Events.{withEnergy}
 use Rattle.device.specs.Device.{powerOn, deviceValid}
 use Rattle.device.specs.Step.{read, sample, step, refusedDevice, readAnswered, sent, readReply, readDone, sampledDone, sampleDone}
 use Rattle.history.specs.Energy.{Turn, partOf, logPart, logAfter, CopiesOf, TrueCopies}
@@ -80,6 +79,6 @@ unfolding
     turns TrueCopies CopiesOf AreCopies logAfter partOf logPart logCopies accountValid added sampled einBytes accountOf freshTotalizer
     energyReading replyCheck replyAnswer nextEnergy nextSamples booked totalize totalizing.added pec pecFrom pecByte pecBit table
     entryOf lookup commandOf readingOf powerOnPage pageValid validOperation validResponse powerOnUnpaged validProtect unpagedValid
-    refused entryAnswer headerAnswer readAnswer answersData readData checked readStream withEnergy powerOn deviceValid step
+    refused entryAnswer headerAnswer readAnswer answersData readData checked readStream powerOn deviceValid step
     refusedDevice readAnswered sent readReply readDone sampledDone sampleDone
 copies-and-history = ((tt, (((is-changed, bytes), (tt, tt)), (tt, (tt, (tt, ((tt, (tt, tt)), tt)))))), refl)

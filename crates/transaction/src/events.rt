@@ -1,7 +1,8 @@
 // What reaches the device beside read and write transactions: measurements, power samples, the alert response.
 ghost use mathlib.Core.Path.{_≡_};
 ghost use Rattle.transaction.specs.Reply.{streamOf};
-ghost use Rattle.transaction.specs.Events.{measureAnswer, measuredEffect, withEnergy, alertAnswer, alertAnswered, alertStream};
+ghost use Rattle.transaction.specs.Unpaged.{withEnergy};
+ghost use Rattle.transaction.specs.Events.{measureAnswer, measuredEffect, alertAnswer, alertAnswered, alertStream};
 use super::Effect;
 use super::Unpaged;
 use super::reply::Frame;
