@@ -63,7 +63,7 @@ sent d header answer = readStream (d .unpaged) (selected d) answer (getD header 
 unfoldable pub readReply : Device → List ℕ → ℕ → List ℕ
 readReply d header n = sent d header (readAnswered d header n)
 
--- an answer that sets no CML bit, 0 among them, leaves the device as it was (proofs/Kept.antt)
+-- an answer that sets no CML bit, 0 among them, leaves the device as it was (history, Unchanged)
 unfoldable pub readDone : Device → List ℕ → ℕ → Done
 readDone d header n = done (refusedDevice d (readAnswered d header n)) (readAnswered d header n)
 

@@ -42,7 +42,7 @@ unfoldable pub weigh : Bool → ℕ → ℕ
 weigh set mask = cond set mask 0
 
 -- "Cause bits: VOUT_OV 7Ah bit 7; IOUT_OC 7Bh bit 7; VIN_OV 7Ch bit 7; VIN_UV 7Ch bit 4; OT 7Dh bit 7; UT 7Dh bit 4."
--- The registers 7Ah to 7Dh with the bits of the causes c set; causes-of-bits in proofs/Causes.antt says it cause by cause.
+-- The registers 7Ah to 7Dh with the bits of the causes c set; history, Latched, says it cause by cause.
 unfoldable pub raised : List ℕ → List Bool → List ℕ
 raised s c =
     bitOr (getD s 0 0) (weigh (getD c 0 false) 128)

@@ -1,6 +1,6 @@
 -- `page::off_while_lasts` meets its contract.
 -- Assumes nothing.
-use Rattle.laws.proofs.Branches.{calls}
+use mathlib.Core.Path.{refl}
 use Rattle.page.specs.Causes.{offWhileLasts}
 use borrow.Author.Needs.{needs}
 use Rattle.page.proofs.causes.off_while_lasts.Statement.{statement}
@@ -38,7 +38,7 @@ array-read-result-10 c = search needs
 
 returns : tie.Need-returns
 unfolding offWhileLasts
-returns c = search calls depth 30 fits 20000
+returns c = refl
 
 pub off-while-lasts-spec : {M : Type 1} → statement M
 off-while-lasts-spec =

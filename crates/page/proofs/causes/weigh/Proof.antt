@@ -11,7 +11,7 @@ returns c = cc
 
 returns-2 : tie.Need-returns-2
 unfolding weigh
-returns-2 c = search calls depth 30 fits 20000
+returns-2 c = search calls
 
 pub weigh-spec : {M : Type 1} → statement M
 weigh-spec = tie.close (tie.spec returns returns-2)

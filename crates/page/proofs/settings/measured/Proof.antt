@@ -1,6 +1,6 @@
 -- `page::measured` meets its contract.
 -- Assumes nothing.
-use Rattle.laws.proofs.Branches.{calls}
+use mathlib.Core.Path.{refl}
 use Rattle.page.specs.Settings.{measured}
 use borrow.Author.Needs.{needs}
 use Rattle.page.proofs.settings.measured.Statement.{statement}
@@ -20,7 +20,7 @@ element-write-q-2 c = search needs
 
 returns : tie.Need-returns
 unfolding measured
-returns c = search calls depth 30 fits 20000
+returns c = refl
 
 pub measured-spec : {M : Type 1} → statement M
 measured-spec = tie.close (tie.spec cast-i mul-q element-write-q element-write-q-2 returns)

@@ -1,6 +1,6 @@
 -- `page::responded` meets its contract.
 -- Assumes nothing.
-use Rattle.laws.proofs.Branches.{calls}
+use mathlib.Core.Path.{refl}
 use Rattle.page.specs.Settings.{responded}
 use borrow.Author.Needs.{needs}
 use Rattle.page.proofs.settings.responded.Statement.{statement}
@@ -14,7 +14,7 @@ element-write-q c = search needs
 
 returns : tie.Need-returns
 unfolding responded
-returns c = search calls depth 30 fits 20000
+returns c = refl
 
 pub responded-spec : {M : Type 1} → statement M
 responded-spec = tie.close (tie.spec cast-i element-write-q returns)

@@ -20,11 +20,11 @@ element-copy-out-result c = search needs
 
 returns : tie.Need-returns
 unfolding reading
-returns c = search calls depth 30 fits 20000
+returns c = search calls
 
 returns-2 : tie.Need-returns-2
 unfolding reading
-returns-2 c = search calls depth 30 fits 20000
+returns-2 c = search calls
 
 pub reading-spec : {M : Type 1} → statement M
 reading-spec =
