@@ -1,23 +1,38 @@
 -- `device::measured_device` meets its contract.
 -- Assumes nothing.
-use Rattle.device.specs.Step.{measuredDevice}
 use borrow.Author.Needs.{needs}
 use Rattle.device.proofs.steps.measured_device.Statement.{statement}
 use Rattle.device.proofs.steps.measured_device.Tie as tie
 
-page-at-requires : tie.Need-page-at-requires
-page-at-requires c κs = search needs
+cast-k : tie.Need-cast-k
+cast-k c = search needs
+
+mul-p : tie.Need-mul-p
+mul-p c = search needs
+
+element-copy-out-p : tie.Need-element-copy-out-p
+element-copy-out-p c = search needs
 
 measured-effect-requires : tie.Need-measured-effect-requires
 measured-effect-requires c κs = search needs
 
-put-page-requires : tie.Need-put-page-requires
-put-page-requires c κs = search needs
+mul-q : tie.Need-mul-q
+mul-q c = search needs
+
+element-set-from-q : tie.Need-element-set-from-q
+element-set-from-q c = search needs
 
 returns : tie.Need-returns
-unfolding measuredDevice
-returns c = cc
+returns c = ?
 
 pub measured-device-spec : {M : Type 1} → statement M
 measured-device-spec =
-    tie.close (tie.spec page-at-requires measured-effect-requires put-page-requires returns)
+    tie.close
+    (tie.spec
+    cast-k
+    mul-p
+    element-copy-out-p
+    measured-effect-requires
+    mul-q
+    element-set-from-q
+    returns)
