@@ -19,11 +19,6 @@ pub struct Sampled {
     pub answer: u8,
 }
 
-// Answer numbers of document 01.
-pub const DONE: u8 = 0;
-
-pub const SAMPLE_TOO_LARGE: u8 = 13;
-
 // Whether each field is in the range that a run from power-on keeps it in.
 pub fn account_valid(a: Account) -> bool
     ensures { λ r. ⌜ r ≡ accountValid a ⌝ }
@@ -60,12 +55,12 @@ pub fn sample(a: Account, sample: u16) -> Sampled
         let next = added(a, sample);
         return Sampled {
             account: next,
-            answer: DONE,
+            answer: answer::DONE,
         };
     }
     Sampled {
         account: a,
-        answer: SAMPLE_TOO_LARGE,
+        answer: answer::SAMPLE_TOO_LARGE,
     }
 }
 

@@ -9,10 +9,10 @@ use Rattle.account.specs.Account.{sampled}
 use Rattle.command.specs.Meaning.{commandOf}
 use Rattle.page.specs.declared.Page.{Page}
 use Rattle.transaction.specs.declared.Effect.{Effect}
-use Rattle.transaction.specs.Unpaged.{refused}
+use Rattle.transaction.specs.Unpaged.{refused, withEnergy}
 use Rattle.transaction.specs.Write.{writeAnswer, wordOf, written}
 use Rattle.transaction.specs.Read.{readAnswer, readStream}
-use Rattle.transaction.specs.Events.{measureAnswer, measuredEffect, withEnergy, alertAnswer, alertAnswered, alertStream}
+use Rattle.transaction.specs.Events.{measureAnswer, measuredEffect, alertAnswer, alertAnswered, alertStream}
 use Rattle.transaction.specs.Reply.{replyOf}
 use Rattle.device.specs.declared.Device.{Device}
 use Rattle.device.specs.declared.Done.{Done}
@@ -30,11 +30,14 @@ putBack d i e = device (e .unpaged) (putPage (d .pages) i (e .page))
 abbrev pub selected : Device → Page
 selected d = pageAt (d .pages) (d .unpaged .page)
 
--- an accepted write of a code with first data bytes x and y
+-- what an accepted write of a code with first data bytes x and y leaves of the unpaged part and the selected page,
+abbrev pub effectOf : Device → ℕ → ℕ → ℕ → Effect
+effectOf d code x y = written (d .unpaged) (selected d) (commandOf code) x (wordOf x y)
+
+-- and of the device
 unfoldable pub accepted : Device → ℕ → ℕ → ℕ → Device
 accepted d code x y =
-    clearedAlert (written (d .unpaged) (selected d) (commandOf code) x (wordOf x y) .unpaged)
-    (putPage (d .pages) (d .unpaged .page) (written (d .unpaged) (selected d) (commandOf code) x (wordOf x y) .page)) code
+    clearedAlert (effectOf d code x y .unpaged) (putPage (d .pages) (d .unpaged .page) (effectOf d code x y .page)) code
 
 -- a refusal leaves at most a CML bit and the alert
 unfoldable pub refusedDevice : Device → ℕ → Device

@@ -43,7 +43,7 @@ pub fn write(d: Device, bytes: &[u8]) -> Done
     if !steps::device_valid(d) {
         return Done {
             device: d,
-            answer: 15,
+            answer: answer::INVALID_STATE,
         };
     }
     steps::transact(d, bytes)
@@ -79,7 +79,7 @@ pub fn measure(d: Device, page: u8, quantity: u8, word: u16) -> Done
     if !steps::device_valid(d) {
         return Done {
             device: d,
-            answer: 15,
+            answer: answer::INVALID_STATE,
         };
     }
     steps::measured(d, page, quantity, word)
@@ -92,7 +92,7 @@ pub fn sample(d: Device, sample: u16) -> Done
     if !steps::device_valid(d) {
         return Done {
             device: d,
-            answer: 15,
+            answer: answer::INVALID_STATE,
         };
     }
     steps::sampled(d, sample)

@@ -66,7 +66,7 @@ fn refused(d: Device, answer: u8) -> Device
 fn after_write(d: Device, answer: u8, code: u8, x: u8, y: u8) -> Device
     ensures { λ r. ⌜ r ≡ afterWrite d answer code x y ⌝ }
 {
-    if answer == 0 {
+    if answer == answer::DONE {
         return accepted(d, code, x, y);
     }
     refused(d, answer)
@@ -93,7 +93,7 @@ pub fn read_answer(valid: bool, header: &[u8], n: usize) -> u8
     ensures { λ r. ⌜ r ≡ cond valid (readAnswer (now (header .entry)) n) 15 ⌝ }
 {
     if !valid {
-        return 15;
+        return answer::INVALID_STATE;
     }
     transaction::read::read_answer(header, n)
 }
@@ -116,7 +116,7 @@ fn measured_device(d: Device, page: u8, quantity: u8, word: u16) -> Device
 fn after_measure(d: Device, answer: u8, page: u8, quantity: u8, word: u16) -> Device
     ensures { λ r. ⌜ r ≡ afterMeasure d answer page quantity word ⌝ }
 {
-    if answer == 0 {
+    if answer == answer::DONE {
         return measured_device(d, page, quantity, word);
     }
     d
@@ -159,7 +159,7 @@ pub fn alert_answer(d: Device, n: usize) -> u8
     ensures { λ r. ⌜ r ≡ alertAnswerOf d n ⌝ }
 {
     if !device_valid(d) {
-        return 15;
+        return answer::INVALID_STATE;
     }
     transaction::events::alert_answer(d.unpaged.alert, n)
 }

@@ -36,7 +36,7 @@ AtEachCopy [] = Unit
 AtEachCopy (took n ∷ h) = AtEachCopy h
 AtEachCopy (got c k ∷ h) = Holds c k (got c k ∷ h) × AtEachCopy h
 
--- "For every list of calls from one power-on .., its eight byte energy replies with answer 0 are presented in order to a fresh totalizer,
--- whichever of them are lost, repeated at once or changed within one run of eight adjacent bits."
+-- For every list of samples and reads from power-on: "its .. energy replies .. are presented in order to a fresh totalizer, whichever of them
+-- are lost, repeated at once or changed within one run of eight adjacent bits". Crate history says the same of every list of a device's calls.
 unfoldable pub Claim : Type 0
 Claim = (es : List Event) → AreEvents powerOn es → AtEachCopy (run powerOn es .log .history)

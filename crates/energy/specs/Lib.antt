@@ -2,4 +2,3 @@ pub mod Reply
 pub mod Events
 pub mod Tally
 pub mod Claim
-pub mod Example

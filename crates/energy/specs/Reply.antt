@@ -23,6 +23,7 @@ bytesOf reply intact = reply
 bytesOf reply (changed s) = s
 
 -- "In a changed copy at least one bit differs, and all that differ lie within eight adjacent ones; in an intact one none does."
+-- What the totalizer gets are bytes.
 abbrev pub IsCopy : List ℕ → Copy → Type 0
 IsCopy reply intact = Unit
 IsCopy reply (changed s) = Changed reply s × Bytes s

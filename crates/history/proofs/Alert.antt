@@ -22,9 +22,9 @@ use Rattle.page.specs.Page.{noPage}
 use Rattle.page.specs.Status.{any, anyStatus, gains, risen}
 use Rattle.transaction.specs.declared.Unpaged.{Unpaged}
 use Rattle.transaction.specs.declared.Effect.{Effect}
-use Rattle.transaction.specs.Unpaged.{refused}
+use Rattle.transaction.specs.Unpaged.{refused, withEnergy}
 use Rattle.transaction.specs.Write.{settledEffect, written, wordOf}
-use Rattle.transaction.specs.Events.{measuredEffect, withEnergy, alertAnswered}
+use Rattle.transaction.specs.Events.{measuredEffect, alertAnswered}
 use Rattle.device.specs.declared.Device.{Device}
 use Rattle.device.specs.Device.{device, deviceValid, clearing, alertOfBits}
 use Rattle.device.specs.Step.{Call, write, read, measure, sample, alertResponse, step, refusedDevice, readDone, sampleDone, alertDone, alertAnsweredDevice, alertAnswerOf}
@@ -169,7 +169,7 @@ module _ (d : Device) where
       rw (w .after) (effect-raised d (measuredOf d page quantity word) page (w .small) refl refl)
 
   sampled-raised : (n : ℕ) → Raised d (next d (sample n))
-  unfolding step sampleDone withEnergy
+  unfolding step sampleDone
   sampled-raised n =
       let account = sampled (d .unpaged .energy) n .account in
       either (deviceValid d)

@@ -17,7 +17,7 @@ use Rattle.page.specs.declared.Page.{Page}
 use Rattle.transaction.specs.declared.Unpaged.{Unpaged}
 use Rattle.transaction.specs.Unpaged.{cmlBits, refused}
 use Rattle.transaction.specs.Write.{written, wordOf, settledEffect}
-use Rattle.transaction.specs.Events.{measuredEffect, withEnergy, alertAnswered}
+use Rattle.transaction.specs.Events.{measuredEffect, alertAnswered}
 use Rattle.device.specs.declared.Device.{Device}
 use Rattle.device.specs.Device.{clearing, deviceValid}
 use Rattle.device.specs.Step.{Call, write, read, measure, sample, alertResponse, step, refusedDevice, readDone, sampleDone, sampledDone, alertDone, alertAnsweredDevice}
@@ -99,7 +99,7 @@ module _ (d : Device) (k : ℕ) where
       keeps (measure page quantity word) z (ap (λ (x : Device). x .unpaged .cml) (was-measured d page quantity word z .after)) refl
 
   sampled-bit : (n : ℕ) → answer d (sample n) ≡ 0 → Claim (sample n)
-  unfolding clearsCml clearingCall acceptedWrite step sampleDone sampledDone withEnergy
+  unfolding clearsCml clearingCall acceptedWrite step sampleDone sampledDone
   sampled-bit n z = keeps (sample n) z (either (deviceValid d) (λ e. rw (e, next)) (λ e. rw (e, next))) refl
 
   alert-bit : (n : ℕ) → answer d (alertResponse n) ≡ 0 → Claim (alertResponse n)

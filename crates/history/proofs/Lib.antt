@@ -14,3 +14,5 @@ pub mod Tripping
 pub mod Bits
 pub mod Alert
 pub mod StatusWords
+pub mod Account
+pub mod Energy

@@ -17,9 +17,9 @@ use Rattle.page.specs.Page.{noPage}
 use Rattle.page.specs.Settings.{pageValid}
 use Rattle.transaction.specs.declared.Unpaged.{Unpaged}
 use Rattle.transaction.specs.declared.Effect.{Effect}
-use Rattle.transaction.specs.Unpaged.{validProtect, unpagedValid}
+use Rattle.transaction.specs.Unpaged.{validProtect, unpagedValid, withEnergy}
 use Rattle.transaction.specs.Write.{writeAnswer, wordOf, written}
-use Rattle.transaction.specs.Events.{measureAnswer, measuredEffect, withEnergy}
+use Rattle.transaction.specs.Events.{measureAnswer, measuredEffect}
 use Rattle.device.specs.declared.Device.{Device}
 use Rattle.device.specs.Device.{device, deviceValid, pageAt, putPage, clearing, alertOfBits, clearedAlert}
 use Rattle.device.specs.Step.{write, measure, sample, step, accepted, writeDone, transacted, afterWrite, measuredDevice, measureDone, measuredDone, afterMeasure, sampleDone, sampledDone}
@@ -117,6 +117,10 @@ module _ (u : Unpaged) (ps : List Page) (code : ℕ) where
   pub put-cml : clearedAlert u ps code .unpaged .cml ≡ u .cml
   unfolding alertOfBits
   put-cml = either (clearing code) (λ e. rw (by-clearing e)) (λ e. rw (no-clearing e))
+
+  pub put-energy : clearedAlert u ps code .unpaged .energy ≡ u .energy
+  unfolding alertOfBits
+  put-energy = either (clearing code) (λ e. rw (by-clearing e)) (λ e. rw (no-clearing e))
 
   pub put-valid : unpagedValid (clearedAlert u ps code .unpaged) ≡ unpagedValid u
   unfolding alertOfBits unpagedValid

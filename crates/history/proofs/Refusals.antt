@@ -16,7 +16,7 @@ use Rattle.account.specs.Account.{sampled}
 use Rattle.transaction.specs.declared.Unpaged.{Unpaged}
 use Rattle.transaction.specs.Unpaged.{cmlBits, refused}
 use Rattle.transaction.specs.Write.{writeAnswer}
-use Rattle.transaction.specs.Events.{measureAnswer, withEnergy, alertAnswer, alertAnswered}
+use Rattle.transaction.specs.Events.{measureAnswer, alertAnswer, alertAnswered}
 use Rattle.device.specs.declared.Device.{Device}
 use Rattle.device.specs.Device.{deviceValid}
 use Rattle.device.specs.Step.{write, read, measure, sample, alertResponse, step, refusedDevice, writeDone, transacted, afterWrite, readDone, measureDone, measuredDone, afterMeasure, sampleDone, sampledDone, alertDone, alertAnsweredDevice, alertAnswerOf}
@@ -70,7 +70,7 @@ module _ (d : Device) where
       (λ e. rw (e, next, answer) fifteen-stays)
 
   refused-sample : (n : ℕ) → (answer d (sample n) ≡ 0 → ⊥) → next d (sample n) ≡ refusedDevice d (answer d (sample n))
-  unfolding step sampleDone sampledDone sampled withEnergy cmlBits
+  unfolding step sampleDone sampledDone sampled cmlBits
   refused-sample n h =
       either (deviceValid d)
       (λ e. either (ltb n 32768) (λ l. absurd ((rw (e, answer, l) at h) refl))

@@ -17,10 +17,10 @@ use Rattle.command.specs.Meaning.{commandOf}
 use Rattle.page.specs.Page.{powerOnPage, noPage}
 use Rattle.page.specs.Settings.{validOperation, validResponse, pageValid}
 use Rattle.transaction.specs.declared.Effect.{Effect}
-use Rattle.transaction.specs.Unpaged.{powerOnUnpaged, validProtect, unpagedValid, refused}
+use Rattle.transaction.specs.Unpaged.{powerOnUnpaged, validProtect, unpagedValid, refused, withEnergy}
 use Rattle.transaction.specs.Write.{dataAnswer, lengthAnswer, codeAnswer, addressedAnswer, writeAnswer, wordOf}
 use Rattle.transaction.specs.Read.{entryAnswer, headerAnswer, readAnswer}
-use Rattle.transaction.specs.Events.{measureAnswer, withEnergy, alertAnswer, alertAnswered}
+use Rattle.transaction.specs.Events.{measureAnswer, alertAnswer, alertAnswered}
 use Rattle.device.specs.declared.Device.{Device}
 use Rattle.device.specs.Device.{device, powerOn, deviceValid, clearedAlert}
 use Rattle.device.specs.Step.{Call, write, read, measure, sample, alertResponse, step, refusedDevice, writeDone, transacted, readDone, readAnswered, measureDone, measuredDone, sampleDone, sampledDone, alertDone, alertAnswerOf, alertAnsweredDevice}
@@ -119,7 +119,7 @@ module _ (d : Device) (v : deviceValid d ≡ true) where
       (device-valid (device (e .unpaged) (set (d .pages) page (e .page))) (h .unpaged) (put-back-valid e page h))
 
   energy-valid : (a : Account) → accountValid a ≡ true → unpagedValid (withEnergy (d .unpaged) a) ≡ true
-  unfolding withEnergy unpagedValid
+  unfolding unpagedValid
   energy-valid a e =
       let parts = valid-parts d v in
       rw (lt-ltb (d .unpaged .page) 8 (parts .page), parts .protect, e)

@@ -8,3 +8,5 @@ pub mod Tripping
 pub mod Alert
 pub mod Accepted
 pub mod StatusWords
+pub mod Energy
+pub mod EnergyExample

@@ -1,1 +1,1 @@
-// No code: what holds of the device over runs of calls (demand 2), stated in specs/ and proved in proofs/.
+// No code: what holds of the device over runs of calls (demands 2 and 3), stated in specs/ and proved in proofs/.

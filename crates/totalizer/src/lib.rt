@@ -28,21 +28,6 @@ pub struct Taken {
     pub answer: u8,
 }
 
-// Answer numbers of document 01.
-pub const DONE: u8 = 0;
-
-pub const STATE_INVALID: u8 = 15;
-
-pub const LENGTH_NOT_EIGHT: u8 = 20;
-
-pub const PEC_WRONG: u8 = 21;
-
-pub const COUNT_BYTE_WRONG: u8 = 22;
-
-pub const ACCUMULATOR_TOO_LARGE: u8 = 23;
-
-pub const TOTAL_FULL: u8 = 24;
-
 // A totalizer that is open, with totals 0.
 fn zero_totals(started: bool, a: account::Account) -> Totalizer
     ensures { λ r. ⌜ r ≡ totalizer started false a 0 0 ⌝ }
@@ -82,19 +67,19 @@ fn reply_answer(reply: &[u8]) -> u8
     ensures { λ r. ⌜ r ≡ replyAnswer (now (reply .entry)) ⌝ }
 {
     if reply.len() != 8 {
-        return LENGTH_NOT_EIGHT;
+        return answer::WRONG_REPLY_LENGTH;
     }
     if reply_check(reply) != reply[7] {
-        return PEC_WRONG;
+        return answer::WRONG_REPLY_PEC;
     }
     if reply[0] != 6 {
-        return COUNT_BYTE_WRONG;
+        return answer::WRONG_COUNT_BYTE;
     }
     let a = account::account_from(reply);
     if a.accumulator > 0x7FFF {
-        return ACCUMULATOR_TOO_LARGE;
+        return answer::ACCUMULATOR_TOO_LARGE;
     }
-    DONE
+    answer::DONE
 }
 
 // How far 23 bit energy readings went forward.
@@ -137,7 +122,7 @@ fn added(t: Totalizer, a: account::Account) -> Taken
                 energy: t.energy + energy,
                 samples: t.samples + samples,
             },
-            answer: DONE,
+            answer: answer::DONE,
         };
     }
     Taken {
@@ -148,7 +133,7 @@ fn added(t: Totalizer, a: account::Account) -> Taken
             energy: t.energy,
             samples: t.samples,
         },
-        answer: TOTAL_FULL,
+        answer: answer::TOTAL_FULL,
     }
 }
 
@@ -159,7 +144,7 @@ fn start(a: account::Account) -> Taken
     let t = zero_totals(true, a);
     Taken {
         totalizer: t,
-        answer: DONE,
+        answer: answer::DONE,
     }
 }
 
@@ -171,7 +156,7 @@ fn booked(t: Totalizer, a: account::Account) -> Taken
     if t.closed {
         return Taken {
             totalizer: t,
-            answer: TOTAL_FULL,
+            answer: answer::TOTAL_FULL,
         };
     }
     if !t.started {
@@ -188,11 +173,11 @@ pub fn take(t: Totalizer, reply: &[u8]) -> Taken
     if !account::account_valid(last) {
         return Taken {
             totalizer: t,
-            answer: STATE_INVALID,
+            answer: answer::INVALID_STATE,
         };
     }
     let answer = reply_answer(reply);
-    if answer != DONE {
+    if answer != answer::DONE {
         return Taken {
             totalizer: t,
             answer: answer,

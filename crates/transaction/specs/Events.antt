@@ -4,12 +4,11 @@ use Prim.Native.Nat.{ℕ}
 use mathlib.Core.Bool.{Bool, true, false, cond, not, _&&_}
 use mathlib.Core.List.{List, [], _∷_}
 use lib.Dec.{ltb, eqb}
-use Rattle.account.specs.declared.Account.{Account}
 use Rattle.page.specs.declared.Page.{Page}
 use Rattle.page.specs.Settings.{measured}
 use Rattle.transaction.specs.declared.Unpaged.{Unpaged}
 use Rattle.transaction.specs.declared.Effect.{Effect}
-use Rattle.transaction.specs.Unpaged.{withAlert, withAccount}
+use Rattle.transaction.specs.Unpaged.{withAlert}
 use Rattle.transaction.specs.Write.{settledEffect}
 
 -- 12: "page over 7 or quantity over 3"
@@ -18,9 +17,6 @@ measureAnswer page quantity = cond (ltb 7 page) 12 (cond (ltb 3 quantity) 12 0)
 
 unfoldable pub measuredEffect : Unpaged → Page → ℕ → ℕ → Effect
 measuredEffect u p quantity word = settledEffect u p (measured p quantity word)
-
-unfoldable pub withEnergy : Unpaged → Account → Unpaged
-withEnergy u a = withAccount u a
 
 -- 2: "alert response with n not 1"; 14: "alert response, alert down"
 unfoldable pub alertAnswer : Bool → ℕ → ℕ

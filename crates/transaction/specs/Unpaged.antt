@@ -27,8 +27,8 @@ withCml u x = record { page = u .page; protect = u .protect; cml = x; alert = u 
 abbrev pub withAlert : Unpaged → Bool → Unpaged
 withAlert u b = record { page = u .page; protect = u .protect; cml = u .cml; alert = b; energy = u .energy }
 
-abbrev pub withAccount : Unpaged → Account → Unpaged
-withAccount u a = record { page = u .page; protect = u .protect; cml = u .cml; alert = u .alert; energy = a }
+abbrev pub withEnergy : Unpaged → Account → Unpaged
+withEnergy u a = record { page = u .page; protect = u .protect; cml = u .cml; alert = u .alert; energy = a }
 
 -- "Power-on: page 0, protect 00h, status and alert clear, account zero"
 unfoldable pub powerOnUnpaged : Unpaged

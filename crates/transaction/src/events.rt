@@ -1,7 +1,8 @@
 // What reaches the device beside read and write transactions: measurements, power samples, the alert response.
 ghost use mathlib.Core.Path.{_≡_};
 ghost use Rattle.transaction.specs.Reply.{streamOf};
-ghost use Rattle.transaction.specs.Events.{measureAnswer, measuredEffect, withEnergy, alertAnswer, alertAnswered, alertStream};
+ghost use Rattle.transaction.specs.Unpaged.{withEnergy};
+ghost use Rattle.transaction.specs.Events.{measureAnswer, measuredEffect, alertAnswer, alertAnswered, alertStream};
 use super::Effect;
 use super::Unpaged;
 use super::reply::Frame;
@@ -12,12 +13,12 @@ pub fn measure_answer(page: u8, quantity: u8) -> u8
     ensures { λ r. ⌜ r ≡ measureAnswer page quantity ⌝ }
 {
     if 7 < page {
-        return 12;
+        return answer::NO_SUCH_QUANTITY;
     }
     if 3 < quantity {
-        return 12;
+        return answer::NO_SUCH_QUANTITY;
     }
-    0
+    answer::DONE
 }
 
 // An accepted measurement, on its page.
@@ -41,12 +42,12 @@ pub fn alert_answer(alert: bool, n: usize) -> u8
     ensures { λ r. ⌜ r ≡ alertAnswer alert n ⌝ }
 {
     if n != 1 {
-        return 2;
+        return answer::MALFORMED;
     }
     if !alert {
-        return 14;
+        return answer::ALERT_DOWN;
     }
-    0
+    answer::DONE
 }
 
 // An answered alert response leaves the alert down.
@@ -54,7 +55,7 @@ pub fn alert_answered(u: Unpaged, answer: u8) -> Unpaged
     ensures { λ r. ⌜ r ≡ alertAnswered u answer ⌝ }
 {
     let mut v = u;
-    v.alert = u.alert & (answer != 0);
+    v.alert = u.alert & (answer != answer::DONE);
     v
 }
 
@@ -62,7 +63,7 @@ pub fn alert_answered(u: Unpaged, answer: u8) -> Unpaged
 pub fn alert_stream(answer: u8) -> Frame
     ensures { λ r. ⌜ streamOf r ≡ alertStream answer ⌝ }
 {
-    if answer == 0 {
+    if answer == answer::DONE {
         return Frame {
             bytes: [0xC0, 0, 0, 0, 0, 0, 0, 0],
             length: 1,

@@ -61,14 +61,14 @@ pub fn cml_bits(answer: u8) -> u8
     ensures { λ r. ⌜ r ≡ cmlBits answer ⌝ }
 {
     match answer {
-        3 => 0x80,
-        5 => 0x02,
-        6 => 0x40,
-        7 => 0x20,
-        8 => 0x80,
-        9 => 0x40,
-        10 => 0x02,
-        11 => 0x02,
+        answer::UNSUPPORTED_COMMAND => 0x80,
+        answer::TOO_FEW_DATA => 0x02,
+        answer::TOO_MANY_DATA => 0x40,
+        answer::WRONG_PEC => 0x20,
+        answer::PROTECTED => 0x80,
+        answer::INVALID_DATA => 0x40,
+        answer::READ_TOO_SHORT => 0x02,
+        answer::READ_TOO_LONG => 0x02,
         _ => 0,
     }
 }

@@ -21,16 +21,16 @@ fn entry_answer(e: Entry, n: usize) -> u8
     ensures { λ r. ⌜ r ≡ entryAnswer e n ⌝ }
 {
     if !e.read {
-        return 3;
+        return answer::UNSUPPORTED_COMMAND;
     }
     let length = e.length as usize;
     if n < length {
-        return 10;
+        return answer::READ_TOO_SHORT;
     }
     if length + 1 < n {
-        return 11;
+        return answer::READ_TOO_LONG;
     }
-    0
+    answer::DONE
 }
 
 // A read addressed to the device, with a whole header.
@@ -47,16 +47,16 @@ pub fn read_answer(header: &[u8], n: usize) -> u8
     ensures { λ r. ⌜ r ≡ readAnswer (now (header .entry)) n ⌝ }
 {
     if header.len() == 0 {
-        return 2;
+        return answer::MALFORMED;
     }
     if header[0] != 0xC0 {
-        return 1;
+        return answer::WRONG_ADDRESS;
     }
     if header.len() != 3 {
-        return 2;
+        return answer::MALFORMED;
     }
     if header[2] != 0xC1 {
-        return 2;
+        return answer::MALFORMED;
     }
     header_answer(header, n)
 }
@@ -65,7 +65,9 @@ pub fn read_answer(header: &[u8], n: usize) -> u8
 pub fn answers_data(answer: u8) -> bool
     ensures { λ r. ⌜ r ≡ answersData answer ⌝ }
 {
-    (answer == 0) | (answer == 10) | (answer == 11)
+    (answer == answer::DONE)
+        | (answer == answer::READ_TOO_SHORT)
+        | (answer == answer::READ_TOO_LONG)
 }
 
 // No byte, one byte, a word low byte first, and the energy account's seven bytes.

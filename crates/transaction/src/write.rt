@@ -72,12 +72,12 @@ fn data_answer(protect: u8, code: u8, x: u8) -> u8
     ensures { λ r. ⌜ r ≡ dataAnswer protect code x ⌝ }
 {
     if !permitted(protect, code) {
-        return 8;
+        return answer::PROTECTED;
     }
     if !valid_for(code, x) {
-        return 9;
+        return answer::INVALID_DATA;
     }
-    0
+    answer::DONE
 }
 
 // A write of a code with n data bytes: 5, 6 and 7 for its length and its packet check.
@@ -87,16 +87,16 @@ fn length_answer(protect: u8, s: &[u8], n: usize, code: u8, x: u8) -> u8
 {
     let k = s.len() - 2;
     if k < n {
-        return 5;
+        return answer::TOO_FEW_DATA;
     }
     if k == n {
         return data_answer(protect, code, x);
     }
     if k - n != 1 {
-        return 6;
+        return answer::TOO_MANY_DATA;
     }
     if !check_right(s) {
-        return 7;
+        return answer::WRONG_PEC;
     }
     data_answer(protect, code, x)
 }
@@ -107,7 +107,7 @@ fn code_answer(protect: u8, s: &[u8], e: Entry, code: u8, x: u8) -> u8
     ensures { λ r. ⌜ r ≡ codeAnswer protect (now (s .entry)) e code x ⌝ }
 {
     if !e.written {
-        return 3;
+        return answer::UNSUPPORTED_COMMAND;
     }
     let n = e.length as usize;
     length_answer(protect, s, n, code, x)
@@ -129,13 +129,13 @@ pub fn write_answer(protect: u8, s: &[u8]) -> u8
     ensures { λ r. ⌜ r ≡ writeAnswer protect (now (s .entry)) ⌝ }
 {
     if s.len() == 0 {
-        return 2;
+        return answer::MALFORMED;
     }
     if s[0] != 0xC0 {
-        return 1;
+        return answer::WRONG_ADDRESS;
     }
     if s.len() == 1 {
-        return 2;
+        return answer::MALFORMED;
     }
     addressed_answer(protect, s)
 }

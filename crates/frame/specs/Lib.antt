@@ -1,0 +1,6 @@
+pub mod Hex
+pub mod Text
+pub mod Gather
+pub mod Line
+pub mod Blocks
+pub mod File

@@ -1,0 +1,74 @@
+-- Demand 3: energy's invariant holds of the device's account and the log after every call.
+-- Assumes nothing.
+use Prim.Native.Nat.{ℕ}
+use mathlib.Core.Path.{_≡_}
+use mathlib.Core.Bool.{true, _&&_, and-eq-true-iff}
+use mathlib.Core.List.{List, [], _∷_}
+use lib.Dec.{eqb}
+use borrow.Author.Tests.{eqb-true}
+use Rattle.laws.proofs.Branches.{either}
+use Rattle.account.specs.Account.{einBytes}
+use Rattle.energy.specs.Reply.{Copy, AreCopies, energyReply}
+use Rattle.energy.specs.Events.{Log, freshLog, logSample}
+use Rattle.energy.specs.Claim.{AtEachCopy}
+use Rattle.energy.proofs.Invariant.{Good, at-start, after-sample}
+use Rattle.energy.proofs.Claim.{after-copies}
+use Rattle.command.specs.Meaning.{commandOf, readingOf}
+use Rattle.transaction.specs.Unpaged.{powerOnUnpaged}
+use Rattle.transaction.specs.Read.{answersData, readData, checked, readStream}
+use Rattle.device.specs.declared.Device.{Device}
+use Rattle.device.specs.Device.{powerOn, deviceValid}
+use Rattle.device.specs.Step.{Call, write, read, measure, sample, alertResponse, step, readAnswered, sent, readReply, readDone, sampleDone, sampledDone}
+use Rattle.history.specs.Run.{next, answer}
+use Rattle.history.specs.Accepted.{codeOf}
+use Rattle.history.specs.Energy.{Turn, isEnergyReply, partOf, part, logPart, logAfter, CopiesOf, TrueCopies, Demand3}
+use Rattle.history.proofs.Account.{energyOf, write-keeps, read-keeps, measure-keeps, alert-keeps}
+
+-- ---- an energy reply is the account's
+
+module _ (d : Device) (header : List ℕ) (n : ℕ) where
+  the-reply : isEnergyReply header n (step d (read header n)) ≡ true → step d (read header n) .reply ≡ energyReply (energyOf d)
+  unfolding step readDone readReply sent readStream answersData checked commandOf readingOf readData energyReply einBytes
+  the-reply e =
+      let a = and-eq-true-iff (eqb (codeOf header) 0x86 && eqb n 8) (eqb (answer d (read header n)) 0) .0 e in
+      let b = and-eq-true-iff (eqb (codeOf header) 0x86) (eqb n 8) .0 (a .0) in
+      rw (eqb-true (readAnswered d header n) 0 (a .1), eqb-true (codeOf header) 0x86 (b .0), eqb-true n 8 (b .1))
+
+-- ---- a call
+
+module _ (d : Device) (l : Log) (g : Good (energyOf d) l) where
+  after-sampled : (n : ℕ) → Good (energyOf (next d (sample n))) (logSample l n (answer d (sample n)))
+  unfolding step sampleDone sampledDone
+  after-sampled n = either (deviceValid d) (λ e. rw (e, next, answer) (after-sample (energyOf d) l n g)) (λ e. rw (e, next, answer) g)
+
+  after-read : (header : List ℕ) (n : ℕ) (cs : List Copy) → CopiesOf cs (partOf (read header n) (step d (read header n)))
+      → Good (energyOf d) (logPart l cs (partOf (read header n) (step d (read header n))))
+  unfolding partOf CopiesOf logPart
+  after-read header n cs m =
+      either (isEnergyReply header n (step d (read header n)))
+      (λ e.
+      let copies : AreCopies (step d (read header n) .reply) cs = rw e at m in
+      let same = the-reply d header n e in
+      rw (e, same) (after-copies (energyOf d) l cs (rw same at copies) g))
+      (λ e. rw e g)
+
+  after-call : (c : Call) (cs : List Copy) → CopiesOf cs (partOf c (step d c)) → Good (energyOf (next d c)) (logPart l cs (partOf c (step d c)))
+  unfolding partOf logPart
+  after-call (write s) cs m = rw (write-keeps d s) g
+  after-call (read header n) cs m = rw (read-keeps d header n) (after-read header n cs m)
+  after-call (measure page quantity word) cs m = rw (measure-keeps d page quantity word) g
+  after-call (sample n) cs m = after-sampled n
+  after-call (alertResponse n) cs m = rw (alert-keeps d n) g
+
+-- ---- a list of them
+
+after-calls : (d : Device) (l : Log) (ts : List Turn) → Good (energyOf d) l → TrueCopies d ts
+    → AtEachCopy (logAfter d l ts .history)
+unfolding logAfter TrueCopies
+after-calls d l [] g m = g .claims
+after-calls d l (t ∷ ts) g m =
+    after-calls (next d (t .call)) (logPart l (t .copies) (part d t)) ts (after-call d l g (t .call) (t .copies) (m .0)) (m .1)
+
+pub demand3 : Demand3
+unfolding Demand3 powerOn powerOnUnpaged
+demand3 ts m = after-calls powerOn freshLog ts at-start m

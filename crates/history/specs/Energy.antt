@@ -1,0 +1,70 @@
+-- Demand 3: one claim about every list of calls from one power-on, with every choice of copies of its energy replies. Copies, and the log of
+-- samples taken and copies got, are those of crate energy (Reply.antt, Events.antt); what holds at each copy too (Claim.antt, Tally.antt).
+-- Assumes nothing.
+use Prim.Native.Nat.{ℕ}
+use mathlib.Core.Bool.{Bool, cond, _&&_}
+use mathlib.Core.List.{List, [], _∷_}
+use lib.Dec.{eqb}
+use Rattle.energy.specs.Reply.{Copy, AreCopies}
+use Rattle.energy.specs.Events.{Log, freshLog, logSample, logCopies}
+use Rattle.energy.specs.Claim.{AtEachCopy}
+use Rattle.device.specs.declared.Device.{Device}
+use Rattle.device.specs.Device.{powerOn}
+use Rattle.device.specs.Step.{Call, write, read, measure, sample, alertResponse, Result, step}
+use Rattle.history.specs.Run.{next}
+use Rattle.history.specs.Accepted.{codeOf}
+
+-- "write and read transactions, measurements, power samples, alert responses, refused ones included": a call of any kind, with any numbers;
+-- "whichever of them are lost, repeated at once or changed": the copies of its reply that the totalizer gets, in order. They count only
+-- where the call leaves an energy reply.
+pub record Turn : Type 0 where
+  pub call : Call
+  pub copies : List Copy
+
+-- a call's part in the demand: a power sample of a number, with its answer; an energy reply, by its bytes; or none
+pub data Part : Type 0 where
+  powerSample : ℕ → ℕ → Part
+  energyReply : List ℕ → Part
+  none : Part
+
+-- "An energy reply is the eight bytes left by a read of 86h with n 8 and answer 0"; with answer 0 the header is C0h, 86h, C1h
+abbrev pub isEnergyReply : List ℕ → ℕ → Result → Bool
+isEnergyReply header n r = eqb (codeOf header) 0x86 && eqb n 8 && eqb (r .done .answer) 0
+
+-- by the call and its result, a line for each kind
+unfoldable pub partOf : Call → Result → Part
+partOf (write s) r = none
+partOf (read header n) r = cond (isEnergyReply header n r) (energyReply (r .reply)) none
+partOf (measure page quantity word) r = none
+partOf (sample n) r = powerSample n (r .done .answer)
+partOf (alertResponse n) r = none
+
+abbrev pub part : Device → Turn → Part
+part d t = partOf (t .call) (step d (t .call))
+
+-- "its eight byte energy replies with answer 0 are presented in order to a .. totalizer": the log l after a call. "Samples taken are power
+-- samples with answer 0" is in logSample.
+unfoldable pub logPart : Log → List Copy → Part → Log
+logPart l copies (powerSample n answer) = logSample l n answer
+logPart l copies (energyReply reply) = logCopies reply l copies
+logPart l copies none = l
+
+-- The log after a list of calls: "Each call gets the state the one before returned .. The totalizer's state goes on likewise".
+unfoldable pub logAfter : Device → Log → List Turn → Log
+logAfter d l [] = l
+logAfter d l (t ∷ ts) = logAfter (next d (t .call)) (logPart l (t .copies) (part d t)) ts
+
+-- the copies of an energy reply are intact or "changed within one run of eight adjacent bits"
+unfoldable pub CopiesOf : List Copy → Part → Type 0
+CopiesOf copies (powerSample n answer) = Unit
+CopiesOf copies (energyReply reply) = AreCopies reply copies
+CopiesOf copies none = Unit
+
+unfoldable pub TrueCopies : Device → List Turn → Type 0
+TrueCopies d [] = Unit
+TrueCopies d (t ∷ ts) = CopiesOf (t .copies) (part d t) × TrueCopies (next d (t .call)) ts
+
+-- "For every list of calls from one power-on", with "a fresh totalizer". AtEachCopy is the rest of the demand, from "Each changed copy gets
+-- 21" on.
+unfoldable pub Demand3 : Type 0
+Demand3 = (ts : List Turn) → TrueCopies powerOn ts → AtEachCopy (logAfter powerOn freshLog ts .history)
