@@ -107,9 +107,9 @@ fn measured_device(d: Device, page: u8, quantity: u8, word: u16) -> Device
     let p = next.pages[k];
     let e = transaction::events::measured_effect(u, p, quantity, word);
     let v = e.unpaged;
-    let q = e.page;
+    let settled = e.page;
     next.unpaged = v;
-    next.pages[k] = q;
+    next.pages[k] = settled;
     next
 }
 

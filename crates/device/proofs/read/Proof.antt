@@ -1,6 +1,8 @@
 -- `device::read` meets its contract.
 -- Assumes nothing.
 use borrow.Author.Needs.{needs}
+use Rattle.device.specs.Device.{pageAt}
+use Rattle.device.specs.Step.{readDone, readReply, readAnswered, sent, refusedDevice}
 use Rattle.device.proofs.read.Statement.{statement}
 use Rattle.device.proofs.read.Tie as tie
 
@@ -35,7 +37,8 @@ same-length : tie.Need-same-length
 same-length c = search needs
 
 returns : tie.Need-returns
-returns c = ?
+unfolding readDone readReply readAnswered sent refusedDevice pageAt
+returns c = (cc, cc)
 
 pub read-spec : {M : Type 1} → statement M
 read-spec =

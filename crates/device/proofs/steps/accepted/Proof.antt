@@ -1,6 +1,10 @@
 -- `device::accepted` meets its contract.
 -- Assumes nothing.
+use mathlib.Core.Path.{sym}
 use borrow.Author.Needs.{needs}
+use Rattle.device.specs.Device.{pageAt, putPage}
+use Rattle.device.specs.Step.{accepted, effectOf}
+use Rattle.device.proofs.Alert.{only-alert}
 use Rattle.device.proofs.steps.accepted.Statement.{statement}
 use Rattle.device.proofs.steps.accepted.Tie as tie
 
@@ -32,7 +36,13 @@ alert-after-requires : tie.Need-alert-after-requires
 alert-after-requires c κs = search needs
 
 returns : tie.Need-returns
-returns c = ?
+unfolding accepted pageAt putPage
+returns c =
+    let before = c .before .before .before .before .before in
+    let a = before .before .before .before .before .before .before .args in
+    let e = effectOf (a .d) (a .code) (a .x) (a .y) in
+    simp (c .before .alert-after .ensures, before .written .ensures, before .before .word-of .ensures, before .before .before .command-of .ensures)
+    (sym (only-alert (e .unpaged) (putPage (a .d .pages) (a .d .unpaged .page) (e .page)) (a .code)))
 
 pub accepted-spec : {M : Type 1} → statement M
 accepted-spec =

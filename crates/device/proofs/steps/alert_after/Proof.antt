@@ -1,8 +1,9 @@
 -- `device::alert_after` meets its contract.
 -- Assumes nothing.
 use Rattle.laws.proofs.Branches.{calls}
-use Rattle.device.specs.Device.{clearedAlert}
+use Rattle.device.specs.Device.{clearedAlert, alertOfBits}
 use borrow.Author.Needs.{needs}
+use borrow.Author.Tests.{eq-eqb}
 use Rattle.device.proofs.steps.alert_after.Statement.{statement}
 use Rattle.device.proofs.steps.alert_after.Tie as tie
 
@@ -10,7 +11,8 @@ any-bit-requires : tie.Need-any-bit-requires
 any-bit-requires c κs = search needs
 
 returns : tie.Need-returns
-returns c = ?
+unfolding clearedAlert alertOfBits
+returns c = simp (eq-eqb _ _ (c .before .before .if1 .taken), c .before .«any-bit» .ensures)
 
 returns-2 : tie.Need-returns-2
 unfolding clearedAlert

@@ -1,6 +1,8 @@
 -- `device::measured_device` meets its contract.
 -- Assumes nothing.
 use borrow.Author.Needs.{needs}
+use Rattle.device.specs.Device.{pageAt, putPage}
+use Rattle.device.specs.Step.{measuredDevice}
 use Rattle.device.proofs.steps.measured_device.Statement.{statement}
 use Rattle.device.proofs.steps.measured_device.Tie as tie
 
@@ -16,14 +18,15 @@ element-copy-out-p c = search needs
 measured-effect-requires : tie.Need-measured-effect-requires
 measured-effect-requires c κs = search needs
 
-mul-q : tie.Need-mul-q
-mul-q c = search needs
+mul-settled : tie.Need-mul-settled
+mul-settled c = search needs
 
-element-set-from-q : tie.Need-element-set-from-q
-element-set-from-q c = search needs
+element-set-from-settled : tie.Need-element-set-from-settled
+element-set-from-settled c = search needs
 
 returns : tie.Need-returns
-returns c = ?
+unfolding measuredDevice pageAt putPage
+returns c = cc
 
 pub measured-device-spec : {M : Type 1} → statement M
 measured-device-spec =
@@ -33,6 +36,6 @@ measured-device-spec =
     mul-p
     element-copy-out-p
     measured-effect-requires
-    mul-q
-    element-set-from-q
+    mul-settled
+    element-set-from-settled
     returns)
