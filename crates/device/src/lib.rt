@@ -9,7 +9,7 @@ use page::Page;
 use transaction::Unpaged;
 use transaction::reply::Frame;
 
-pub mod pages; // pages.rt: the eight pages as an array
+pub mod pages; // pages.rt: tests over the eight pages
 pub mod steps; // steps.rt: the parts of a call
 
 #[repr(C)]
@@ -55,10 +55,17 @@ pub fn read(d: Device, header: &[u8], reply: &mut [u8]) -> Done
     ensures { λ r. ⌜ now (reply .exit) ≡ replyOf (readReply d (now (header .entry)) (length (now (reply .entry)))) (length (now (reply .entry))) ⌝ }
 {
     let n = reply.len();
-    let answer = steps::read_answer(d, header, n);
-    let frame = steps::read_frame(d, header, answer);
+    let valid = steps::device_valid(d);
+    let answer = steps::read_answer(valid, header, n);
+    let u = d.unpaged;
+    let k = (u.page % 8) as usize;
+    let p = d.pages[k];
+    let code = transaction::write::byte_at(header, 1);
+    let frame = transaction::read::read_stream(u, p, answer, code);
     transaction::reply::send(reply, frame);
-    let e = steps::refused(d, answer);
+    let v = transaction::refused(u, answer);
+    let mut e = d;
+    e.unpaged = v;
     Done {
         device: e,
         answer: answer,

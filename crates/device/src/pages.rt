@@ -1,26 +1,9 @@
-// The eight pages as an array: one taken out, one put back, and tests over all of them.
+// Tests over the eight pages. They hand back a truth value only: a device that came through them would be copied field by field.
 ghost use mathlib.Core.Path.{_≡_};
 ghost use Rattle.page.specs.Settings.{pageValid};
 ghost use Rattle.page.specs.Status.{anyStatus};
 ghost use Rattle.laws.specs.Lists.{allOf, anyOf};
-ghost use Rattle.device.specs.Device.{pageAt, putPage};
 use page::Page;
-
-pub fn page_at(ps: [Page; 8], i: u8) -> Page
-    ensures { λ r. ⌜ r ≡ pageAt ps i ⌝ }
-{
-    let k = (i % 8) as usize;
-    ps[k]
-}
-
-pub fn put_page(ps: [Page; 8], i: u8, p: Page) -> [Page; 8]
-    ensures { λ r. ⌜ r ≡ putPage ps i p ⌝ }
-{
-    let k = (i % 8) as usize;
-    let mut qs = ps;
-    qs[k] = p;
-    qs
-}
 
 pub fn all_valid(ps: [Page; 8]) -> bool
     ensures { λ r. ⌜ r ≡ allOf pageValid ps ⌝ }

@@ -1,15 +1,15 @@
 // The parts of a call: a page is taken out, a rule works on it and the unpaged part, and both are put back.
 ghost use mathlib.Core.Path.{_≡_};
-ghost use Rattle.transaction.specs.Reply.{streamOf};
-ghost use Rattle.device.specs.Device.{deviceValid, alertOfBits, clearedAlert};
-ghost use Rattle.device.specs.Step.{accepted, refusedDevice, afterWrite, transacted, readAnswered, sent, measuredDevice, afterMeasure, measuredDone, sampledDone, alertAnswerOf, alertAnsweredDevice};
+ghost use mathlib.Core.Bool.{cond};
+ghost use Rattle.transaction.specs.Read.{readAnswer};
+ghost use Rattle.device.specs.Device.{deviceValid, clearedAlert};
+ghost use Rattle.device.specs.Step.{accepted, refusedDevice, afterWrite, transacted, measuredDevice, afterMeasure, measuredDone, sampledDone, alertAnswerOf, alertAnsweredDevice};
 use super::Device;
 use super::Done;
 use super::pages;
 use command::Command;
 use page::Page;
 use transaction::Unpaged;
-use transaction::reply::Frame;
 
 // A state that no answer 15 goes to.
 pub fn device_valid(d: Device) -> bool
@@ -20,51 +20,38 @@ pub fn device_valid(d: Device) -> bool
     transaction::unpaged_valid(u) & pages::all_valid(ps)
 }
 
-// The alert after a clearing: up exactly when a bit stands on any page or in STATUS_CML.
-fn alert_of_bits(u: Unpaged, ps: [Page; 8]) -> Device
-    ensures { λ r. ⌜ r ≡ alertOfBits u ps ⌝ }
-{
-    let bits = pages::any_bit(ps);
-    let mut v = u;
-    v.alert = bits | (u.cml != 0);
-    Device {
-        unpaged: v,
-        pages: ps,
-    }
-}
-
-// What the pages and the unpaged part are after an accepted write of a code.
-fn cleared_alert(u: Unpaged, ps: [Page; 8], code: u8) -> Device
-    ensures { λ r. ⌜ r ≡ clearedAlert u ps code ⌝ }
+// The alert after an accepted write of a code: after a clearing, up exactly when a bit stands on any page or in STATUS_CML.
+fn alert_after(u: Unpaged, ps: [Page; 8], code: u8) -> bool
+    ensures { λ r. ⌜ r ≡ clearedAlert u ps code .unpaged .alert ⌝ }
 {
     if code == 0x03 {
-        return alert_of_bits(u, ps);
+        return pages::any_bit(ps) | (u.cml != 0);
     }
-    Device {
-        unpaged: u,
-        pages: ps,
-    }
+    u.alert
 }
 
-// An accepted write: its code, and its first two data bytes or 0.
+// An accepted write: its code, and its first two data bytes or 0. The device is copied once and changed in the copy.
 fn accepted(d: Device, code: u8, x: u8, y: u8) -> Device
     ensures { λ r. ⌜ r ≡ accepted d code x y ⌝ }
 {
     let u = d.unpaged;
-    let ps = d.pages;
-    let i = u.page;
-    let p = pages::page_at(ps, i);
+    let k = (u.page % 8) as usize;
+    let mut next = d;
+    let p = next.pages[k];
     let command = command::command_of(code);
     let word = transaction::write::word_of(x, y);
     let e = transaction::write::written(u, p, command, x, word);
     let v = e.unpaged;
     let q = e.page;
-    let qs = pages::put_page(ps, i, q);
-    cleared_alert(v, qs, code)
+    next.unpaged = v;
+    next.pages[k] = q;
+    let qs = next.pages;
+    next.unpaged.alert = alert_after(v, qs, code);
+    next
 }
 
-// A refused transaction.
-pub fn refused(d: Device, answer: u8) -> Device
+// A refused write.
+fn refused(d: Device, answer: u8) -> Device
     ensures { λ r. ⌜ r ≡ refusedDevice d answer ⌝ }
 {
     let u = d.unpaged;
@@ -101,42 +88,29 @@ pub fn transact(d: Device, bytes: &[u8]) -> Done
     }
 }
 
-// The answer of a read.
-pub fn read_answer(d: Device, header: &[u8], n: usize) -> u8
-    ensures { λ r. ⌜ r ≡ readAnswered d (now (header .entry)) n ⌝ }
+// The answer of a read: 15 where the state is not valid.
+pub fn read_answer(valid: bool, header: &[u8], n: usize) -> u8
+    ensures { λ r. ⌜ r ≡ cond valid (readAnswer (now (header .entry)) n) 15 ⌝ }
 {
-    if !device_valid(d) {
+    if !valid {
         return answer::INVALID_STATE;
     }
     transaction::read::read_answer(header, n)
-}
-
-// What a read with this answer sends.
-pub fn read_frame(d: Device, header: &[u8], answer: u8) -> Frame
-    ensures { λ r. ⌜ streamOf r ≡ sent d (now (header .entry)) answer ⌝ }
-{
-    let u = d.unpaged;
-    let ps = d.pages;
-    let i = u.page;
-    let p = pages::page_at(ps, i);
-    let code = transaction::write::byte_at(header, 1);
-    transaction::read::read_stream(u, p, answer, code)
 }
 
 fn measured_device(d: Device, page: u8, quantity: u8, word: u16) -> Device
     ensures { λ r. ⌜ r ≡ measuredDevice d page quantity word ⌝ }
 {
     let u = d.unpaged;
-    let ps = d.pages;
-    let p = pages::page_at(ps, page);
+    let k = (page % 8) as usize;
+    let mut next = d;
+    let p = next.pages[k];
     let e = transaction::events::measured_effect(u, p, quantity, word);
     let v = e.unpaged;
-    let q = e.page;
-    let qs = pages::put_page(ps, page, q);
-    Device {
-        unpaged: v,
-        pages: qs,
-    }
+    let settled = e.page;
+    next.unpaged = v;
+    next.pages[k] = settled;
+    next
 }
 
 fn after_measure(d: Device, answer: u8, page: u8, quantity: u8, word: u16) -> Device

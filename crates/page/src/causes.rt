@@ -1,28 +1,38 @@
 // Which causes are present, and what they leave: latched status bits, and the trip.
 ghost use mathlib.Core.Path.{_≡_};
+ghost use mathlib.Core.Bool.{_&&_};
 ghost use Rattle.page.specs.Causes.{above, below, aboveUnsigned, presentCauses, weigh, raised, staysOff, offWhileLasts, settled};
 use super::Page;
 
-// The word's value is strictly above the limit's.
-fn above(word: u16, limit: u16) -> bool
-    ensures { λ r. ⌜ r ≡ above word limit ⌝ }
+// The measured word's value is strictly above the limit's. Early returns, here and below: six comparisons without them become slow vector code.
+fn above(measured: bool, word: u16, limit: u16) -> bool
+    ensures { λ r. ⌜ r ≡ (measured && above word limit) ⌝ }
 {
+    if !measured {
+        return false;
+    }
     let order = linear11::compare_linear11(word, limit);
     linear11::is_above(order)
 }
 
-// The word's value is strictly below the limit's.
-fn below(word: u16, limit: u16) -> bool
-    ensures { λ r. ⌜ r ≡ below word limit ⌝ }
+// The measured word's value is strictly below the limit's.
+fn below(measured: bool, word: u16, limit: u16) -> bool
+    ensures { λ r. ⌜ r ≡ (measured && below word limit) ⌝ }
 {
+    if !measured {
+        return false;
+    }
     let order = linear11::compare_linear11(word, limit);
     linear11::is_below(order)
 }
 
 // The same for VOUT words, which are unsigned.
-fn above_unsigned(word: u16, limit: u16) -> bool
-    ensures { λ r. ⌜ r ≡ aboveUnsigned word limit ⌝ }
+fn above_unsigned(measured: bool, word: u16, limit: u16) -> bool
+    ensures { λ r. ⌜ r ≡ (measured && aboveUnsigned word limit) ⌝ }
 {
+    if !measured {
+        return false;
+    }
     let order = linear11::compare_unsigned(word, limit);
     linear11::is_above(order)
 }
@@ -31,19 +41,13 @@ fn above_unsigned(word: u16, limit: u16) -> bool
 pub fn present_causes(p: Page) -> [bool; 6]
     ensures { λ r. ⌜ r ≡ presentCauses p ⌝ }
 {
-    let vout = above_unsigned(p.words[0], p.limits[0]);
-    let iout = above(p.words[1], p.limits[1]);
-    let hot = above(p.words[3], p.limits[2]);
-    let cold = below(p.words[3], p.limits[3]);
-    let high = above(p.words[2], p.limits[4]);
-    let low = below(p.words[2], p.limits[5]);
     [
-        p.measured[0] & vout,
-        p.measured[1] & iout,
-        p.measured[3] & hot,
-        p.measured[3] & cold,
-        p.measured[2] & high,
-        p.measured[2] & low,
+        above_unsigned(p.measured[0], p.words[0], p.limits[0]),
+        above(p.measured[1], p.words[1], p.limits[1]),
+        above(p.measured[3], p.words[3], p.limits[2]),
+        below(p.measured[3], p.words[3], p.limits[3]),
+        above(p.measured[2], p.words[2], p.limits[4]),
+        below(p.measured[2], p.words[2], p.limits[5]),
     ]
 }
 

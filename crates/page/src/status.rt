@@ -1,5 +1,6 @@
 // What the page shows: whether it supplies, its derived status registers, its latest words, and which bits are new.
 ghost use mathlib.Core.Path.{_≡_};
+ghost use mathlib.Core.List.{[], _∷_};
 ghost use Rattle.page.specs.Status.{supplies, statusByte, statusHigh, reading, anyStatus, risen};
 use super::Page;
 use super::causes;
@@ -14,11 +15,11 @@ pub fn supplies(p: Page) -> bool
     (p.operation == 0x80) & !p.tripped & !held
 }
 
-// STATUS_BYTE, also the low byte of STATUS_WORD. The CML register belongs to no page.
-pub fn status_byte(p: Page, cml: u8) -> u8
+// STATUS_BYTE of a page that is on, which is to say supplies, or not. The CML register belongs to no page.
+fn low_byte(p: Page, on: bool, cml: u8) -> u8
+    requires { ⌜ on ≡ supplies p ⌝ }
     ensures { λ r. ⌜ r ≡ statusByte p cml ⌝ }
 {
-    let on = supplies(p);
     let vout = p.status[0];
     let iout = p.status[1];
     let input = p.status[2];
@@ -34,14 +35,31 @@ pub fn status_byte(p: Page, cml: u8) -> u8
 }
 
 // The high byte of STATUS_WORD.
-pub fn status_high(p: Page) -> u8
+fn high_byte(p: Page, on: bool) -> u8
+    requires { ⌜ on ≡ supplies p ⌝ }
     ensures { λ r. ⌜ r ≡ statusHigh p ⌝ }
 {
-    let on = supplies(p);
     causes::weigh(p.status[0] != 0, 128)
         | causes::weigh(p.status[1] != 0, 64)
         | causes::weigh(p.status[2] != 0, 32)
         | causes::weigh(!on, 8)
+}
+
+pub fn status_byte(p: Page, cml: u8) -> u8
+    ensures { λ r. ⌜ r ≡ statusByte p cml ⌝ }
+{
+    let on = supplies(p);
+    low_byte(p, on, cml)
+}
+
+// STATUS_WORD, low byte first. Whether the page supplies is found out once for both bytes.
+pub fn status_word(p: Page, cml: u8) -> [u8; 2]
+    ensures { λ r. ⌜ r ≡ statusByte p cml ∷ statusHigh p ∷ [] ⌝ }
+{
+    let on = supplies(p);
+    let low = low_byte(p, on, cml);
+    let high = high_byte(p, on);
+    [low, high]
 }
 
 // The latest word of a quantity, 0000h before any.

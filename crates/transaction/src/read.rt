@@ -145,9 +145,8 @@ fn status_byte(p: Page, cml: u8) -> Frame
 fn status_word(p: Page, cml: u8) -> Frame
     ensures { λ r. ⌜ (streamOf r ≡ statusByte p cml ∷ statusHigh p ∷ []) × (r .length < 8) ⌝ }
 {
-    let low = page::status::status_byte(p, cml);
-    let high = page::status::status_high(p);
-    two(low, high)
+    let w = page::status::status_word(p, cml);
+    two(w[0], w[1])
 }
 
 fn reading(p: Page, quantity: u8) -> Frame

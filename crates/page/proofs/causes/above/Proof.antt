@@ -1,9 +1,13 @@
 -- `page::above` meets its contract.
 -- Assumes nothing.
 use borrow.Author.Needs.{needs}
+use borrow.Author.Tests.{not-true, not-false}
 use Rattle.page.specs.Causes.{above}
 use Rattle.page.proofs.causes.above.Statement.{statement}
 use Rattle.page.proofs.causes.above.Tie as tie
+
+returns : tie.Need-returns
+returns c = simp (not-true (c .before .args .measured) (c .if1 .taken))
 
 compare-linear11-requires : tie.Need-compare-linear11-requires
 compare-linear11-requires c κs = search needs
@@ -11,9 +15,9 @@ compare-linear11-requires c κs = search needs
 is-above-requires : tie.Need-is-above-requires
 is-above-requires c κs = search needs
 
-returns : tie.Need-returns
+returns-2 : tie.Need-returns-2
 unfolding above
-returns c = cc
+returns-2 c = simp (not-false (c .before .before .before .args .measured) (c .before .before .if1 .left), c .is-above .ensures, c .before .compare-linear11 .ensures)
 
 pub above-spec : {M : Type 1} → statement M
-above-spec = tie.close (tie.spec compare-linear11-requires is-above-requires returns)
+above-spec = tie.close (tie.spec returns compare-linear11-requires is-above-requires returns-2)

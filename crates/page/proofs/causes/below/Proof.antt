@@ -1,9 +1,13 @@
 -- `page::below` meets its contract.
 -- Assumes nothing.
 use borrow.Author.Needs.{needs}
+use borrow.Author.Tests.{not-true, not-false}
 use Rattle.page.specs.Causes.{below}
 use Rattle.page.proofs.causes.below.Statement.{statement}
 use Rattle.page.proofs.causes.below.Tie as tie
+
+returns : tie.Need-returns
+returns c = simp (not-true (c .before .args .measured) (c .if1 .taken))
 
 compare-linear11-requires : tie.Need-compare-linear11-requires
 compare-linear11-requires c κs = search needs
@@ -11,9 +15,9 @@ compare-linear11-requires c κs = search needs
 is-below-requires : tie.Need-is-below-requires
 is-below-requires c κs = search needs
 
-returns : tie.Need-returns
+returns-2 : tie.Need-returns-2
 unfolding below
-returns c = cc
+returns-2 c = simp (not-false (c .before .before .before .args .measured) (c .before .before .if1 .left), c .is-below .ensures, c .before .compare-linear11 .ensures)
 
 pub below-spec : {M : Type 1} → statement M
-below-spec = tie.close (tie.spec compare-linear11-requires is-below-requires returns)
+below-spec = tie.close (tie.spec returns compare-linear11-requires is-below-requires returns-2)

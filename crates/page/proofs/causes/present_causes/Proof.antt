@@ -11,6 +11,9 @@ element-copy-out-above-unsigned c = search needs
 element-copy-out-above-unsigned-2 : tie.Need-element-copy-out-above-unsigned-2
 element-copy-out-above-unsigned-2 c = search needs
 
+element-copy-out-above-unsigned-3 : tie.Need-element-copy-out-above-unsigned-3
+element-copy-out-above-unsigned-3 c = search needs
+
 above-unsigned-requires : tie.Need-above-unsigned-requires
 above-unsigned-requires c κs = search needs
 
@@ -20,14 +23,20 @@ element-copy-out-above c = search needs
 element-copy-out-above-2 : tie.Need-element-copy-out-above-2
 element-copy-out-above-2 c = search needs
 
-above-requires : tie.Need-above-requires
-above-requires c κs = search needs
-
 element-copy-out-above-3 : tie.Need-element-copy-out-above-3
 element-copy-out-above-3 c = search needs
 
+above-requires : tie.Need-above-requires
+above-requires c κs = search needs
+
 element-copy-out-above-4 : tie.Need-element-copy-out-above-4
 element-copy-out-above-4 c = search needs
+
+element-copy-out-above-5 : tie.Need-element-copy-out-above-5
+element-copy-out-above-5 c = search needs
+
+element-copy-out-above-6 : tie.Need-element-copy-out-above-6
+element-copy-out-above-6 c = search needs
 
 above-requires-2 : tie.Need-above-requires-2
 above-requires-2 c κs = search needs
@@ -38,48 +47,39 @@ element-copy-out-below c = search needs
 element-copy-out-below-2 : tie.Need-element-copy-out-below-2
 element-copy-out-below-2 c = search needs
 
+element-copy-out-below-3 : tie.Need-element-copy-out-below-3
+element-copy-out-below-3 c = search needs
+
 below-requires : tie.Need-below-requires
 below-requires c κs = search needs
 
-element-copy-out-above-5 : tie.Need-element-copy-out-above-5
-element-copy-out-above-5 c = search needs
+element-copy-out-above-7 : tie.Need-element-copy-out-above-7
+element-copy-out-above-7 c = search needs
 
-element-copy-out-above-6 : tie.Need-element-copy-out-above-6
-element-copy-out-above-6 c = search needs
+element-copy-out-above-8 : tie.Need-element-copy-out-above-8
+element-copy-out-above-8 c = search needs
+
+element-copy-out-above-9 : tie.Need-element-copy-out-above-9
+element-copy-out-above-9 c = search needs
 
 above-requires-3 : tie.Need-above-requires-3
 above-requires-3 c κs = search needs
 
-element-copy-out-below-3 : tie.Need-element-copy-out-below-3
-element-copy-out-below-3 c = search needs
-
 element-copy-out-below-4 : tie.Need-element-copy-out-below-4
 element-copy-out-below-4 c = search needs
+
+element-copy-out-below-5 : tie.Need-element-copy-out-below-5
+element-copy-out-below-5 c = search needs
+
+element-copy-out-below-6 : tie.Need-element-copy-out-below-6
+element-copy-out-below-6 c = search needs
 
 below-requires-2 : tie.Need-below-requires-2
 below-requires-2 c κs = search needs
 
-element-copy-out-t37 : tie.Need-element-copy-out-t37
-element-copy-out-t37 c = search needs
-
-element-copy-out-t41 : tie.Need-element-copy-out-t41
-element-copy-out-t41 c = search needs
-
-element-copy-out-t45 : tie.Need-element-copy-out-t45
-element-copy-out-t45 c = search needs
-
-element-copy-out-t49 : tie.Need-element-copy-out-t49
-element-copy-out-t49 c = search needs
-
-element-copy-out-t53 : tie.Need-element-copy-out-t53
-element-copy-out-t53 c = search needs
-
-element-copy-out-t57 : tie.Need-element-copy-out-t57
-element-copy-out-t57 c = search needs
-
 returns : tie.Need-returns
 unfolding presentCauses
-returns c = simp (c .before .before .before .before .before .before .below2 .ensures, c .before .before .before .before .before .before .before .before .before .above3 .ensures, c .before .before .before .before .before .before .before .before .before .before .before .before .below .ensures, c .before .before .before .before .before .before .before .before .before .before .before .before .before .before .before .above2 .ensures, c .before .before .before .before .before .before .before .before .before .before .before .before .before .before .before .before .before .before .above .ensures, c .before .before .before .before .before .before .before .before .before .before .before .before .before .before .before .before .before .before .before .before .before .above-unsigned .ensures)
+returns c = simp (c .below2 .ensures, c .before .before .before .before .above3 .ensures, c .before .before .before .before .before .before .before .before .below .ensures, c .before .before .before .before .before .before .before .before .before .before .before .before .above2 .ensures, c .before .before .before .before .before .before .before .before .before .before .before .before .before .before .before .before .above .ensures, c .before .before .before .before .before .before .before .before .before .before .before .before .before .before .before .before .before .before .before .before .above-unsigned .ensures)
 
 pub present-causes-spec : {M : Type 1} → statement M
 present-causes-spec =
@@ -87,26 +87,26 @@ present-causes-spec =
     (tie.spec
     element-copy-out-above-unsigned
     element-copy-out-above-unsigned-2
+    element-copy-out-above-unsigned-3
     above-unsigned-requires
     element-copy-out-above
     element-copy-out-above-2
-    above-requires
     element-copy-out-above-3
+    above-requires
     element-copy-out-above-4
+    element-copy-out-above-5
+    element-copy-out-above-6
     above-requires-2
     element-copy-out-below
     element-copy-out-below-2
-    below-requires
-    element-copy-out-above-5
-    element-copy-out-above-6
-    above-requires-3
     element-copy-out-below-3
+    below-requires
+    element-copy-out-above-7
+    element-copy-out-above-8
+    element-copy-out-above-9
+    above-requires-3
     element-copy-out-below-4
+    element-copy-out-below-5
+    element-copy-out-below-6
     below-requires-2
-    element-copy-out-t37
-    element-copy-out-t41
-    element-copy-out-t45
-    element-copy-out-t49
-    element-copy-out-t53
-    element-copy-out-t57
     returns)

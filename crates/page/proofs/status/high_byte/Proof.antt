@@ -1,12 +1,9 @@
--- `page::status_high` meets its contract.
+-- `page::high_byte` meets its contract.
 -- Assumes nothing.
 use Rattle.page.specs.Status.{statusHigh}
 use borrow.Author.Needs.{needs}
-use Rattle.page.proofs.status.status_high.Statement.{statement}
-use Rattle.page.proofs.status.status_high.Tie as tie
-
-supplies-requires : tie.Need-supplies-requires
-supplies-requires c κs = search needs
+use Rattle.page.proofs.status.high_byte.Statement.{statement}
+use Rattle.page.proofs.status.high_byte.Tie as tie
 
 element-copy-out-weigh : tie.Need-element-copy-out-weigh
 element-copy-out-weigh c = search needs
@@ -33,11 +30,10 @@ returns : tie.Need-returns
 unfolding statusHigh
 returns c = cc
 
-pub status-high-spec : {M : Type 1} → statement M
-status-high-spec =
+pub high-byte-spec : {M : Type 1} → statement M
+high-byte-spec =
     tie.close
     (tie.spec
-    supplies-requires
     element-copy-out-weigh
     weigh-requires
     element-copy-out-weigh-2

@@ -1,12 +1,9 @@
--- `page::status_byte` meets its contract.
+-- `page::low_byte` meets its contract.
 -- Assumes nothing.
-use Rattle.page.specs.Status.{statusByte}
 use borrow.Author.Needs.{needs}
-use Rattle.page.proofs.status.status_byte.Statement.{statement}
-use Rattle.page.proofs.status.status_byte.Tie as tie
-
-supplies-requires : tie.Need-supplies-requires
-supplies-requires c κs = search needs
+use Rattle.page.specs.Status.{statusByte}
+use Rattle.page.proofs.status.low_byte.Statement.{statement}
+use Rattle.page.proofs.status.low_byte.Tie as tie
 
 element-copy-out-vout : tie.Need-element-copy-out-vout
 element-copy-out-vout c = search needs
@@ -43,13 +40,12 @@ weigh-requires-7 c κs = search needs
 
 returns : tie.Need-returns
 unfolding statusByte
-returns c = simp (c .weigh7 .ensures, c .before .weigh6 .ensures, c .before .before .weigh5 .ensures, c .before .before .before .weigh4 .ensures, c .before .before .before .before .weigh3 .ensures, c .before .before .before .before .before .weigh2 .ensures, c .before .before .before .before .before .before .weigh .ensures, c .before .before .before .before .before .before .before .before .before .before .before .supplies .ensures)
+returns c = simp (c .weigh7 .ensures, c .before .weigh6 .ensures, c .before .before .weigh5 .ensures, c .before .before .before .weigh4 .ensures, c .before .before .before .before .weigh3 .ensures, c .before .before .before .before .before .weigh2 .ensures, c .before .before .before .before .before .before .weigh .ensures, c .before .before .before .before .before .before .before .before .before .before .before .pre)
 
-pub status-byte-spec : {M : Type 1} → statement M
-status-byte-spec =
+pub low-byte-spec : {M : Type 1} → statement M
+low-byte-spec =
     tie.close
     (tie.spec
-    supplies-requires
     element-copy-out-vout
     element-copy-out-iout
     element-copy-out-input

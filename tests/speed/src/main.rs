@@ -1,0 +1,28 @@
+//! `speed` prints a table of nanoseconds a call; `speed BENCH REFERENCE FILE` also one of frames a second, for two programs on a frame file.
+//! Figures are best / median of many repetitions; a ratio over 1 says that the proved program is slower.
+
+mod calls;
+mod frames;
+mod race;
+mod routines;
+
+fn main() {
+    println!("Best / median of {} batches.\n", race::REPETITIONS);
+    race::print_head();
+    calls::pec_of("PEC, 8 bytes", 8, 2000);
+    calls::pec_of("PEC, 4 KiB", 4096, 4);
+    calls::write("write, limit with PEC, accepted", 0);
+    calls::write("write, limit with wrong PEC, refused", 7);
+    calls::read("read, STATUS_WORD", 0x79, 2);
+    calls::read("read, READ_EIN", 0x86, 7);
+    calls::measure("measure");
+    calls::sample("sample");
+    calls::alert_response("alert response, answered");
+    calls::totalizer("totalizer, one reply");
+
+    let arguments: Vec<String> = std::env::args().skip(1).collect();
+    if let [bench, reference, file] = &arguments[..] {
+        println!();
+        frames::compare(bench, reference, file);
+    }
+}
