@@ -1,18 +1,17 @@
 -- Laws of characters fed one after the other: up to the first LF, and in two parts.
 -- Assumes nothing.
-use Prim.Native.Nat.{ℕ, suc, _+_, _<_, _≤_}
+use Prim.Native.Nat.{ℕ, suc, _+_}
 use mathlib.Core.Path.{_≡_, refl, sym, ap, _∙_}
-use mathlib.Core.Bool.{Bool, true, false, false≢true}
+use mathlib.Core.Bool.{true, false, false≢true}
 use mathlib.Core.List.{List, [], _∷_, _++_, append-assoc}
-use native.Mathlib.Omega.{arith}
 use lib.Dec.{eqb}
-use lib.ListN.{length, drop, set, length-set}
+use lib.ListN.{length, take, set, length-set}
 use lib.Seq.{sets}
 use Rattle.laws.proofs.Branches.{either}
 use Rattle.device.specs.declared.Device.{Device}
 use Rattle.frame.specs.Gather.{upTo, ends, countOf, heldIn}
 use Rattle.frame.specs.Line.{lineOutcome, textOf}
-use Rattle.frame.specs.Blocks.{Fed, after, feed}
+use Rattle.frame.specs.Blocks.{Fed, fed, after, feed}
 use Rattle.frame.proofs.Gathering.{count-none, count-more, keep-more}
 
 -- two texts one after the other
@@ -21,7 +20,7 @@ after-after a b f = rw (append-assoc a b (f .text))
 
 -- no LF: all of it is gathered
 pub feed-gathers : (s : List ℕ) (d : Device) (line : List ℕ) (n : ℕ) → ends s ≡ false
-    → feed d line n s ≡ record { device = d; line = sets line n (upTo s); length = countOf (length line) n (length (upTo s)); text = [] }
+    → feed d line n s ≡ fed d (sets line n (upTo s)) (countOf (length line) n (length (upTo s))) []
 unfolding feed upTo ends
 feed-gathers [] d line n e = rw count-none
 feed-gathers (c ∷ s) d line n e =
@@ -30,17 +29,15 @@ feed-gathers (c ∷ s) d line n e =
     (λ f.
     rw f (rw (length-set, count-more, keep-more) at (feed-gathers s d (set line n c) (countOf (length line) n 1) (rw f at e))))
 
--- up to an LF: the line is gathered and run, and the rest is fed
+-- up to the first LF: the line is gathered and run
 pub feed-line : (s : List ℕ) (d : Device) (line : List ℕ) (n : ℕ) → ends s ≡ true
-    → feed d line n s
-    ≡ after (textOf (lineOutcome d (heldIn (sets line n (upTo s)) (countOf (length line) n (length (upTo s))))))
-    (feed (lineOutcome d (heldIn (sets line n (upTo s)) (countOf (length line) n (length (upTo s)))) .done .device) (sets line n (upTo s)) 0
-    (drop (suc (length (upTo s))) s))
+    → feed d line n (take (suc (length (upTo s))) s)
+    ≡ fed (lineOutcome d (heldIn (sets line n (upTo s)) (countOf (length line) n (length (upTo s)))) .done .device) (sets line n (upTo s)) 0
+    (textOf (lineOutcome d (heldIn (sets line n (upTo s)) (countOf (length line) n (length (upTo s))))) ++ [])
 unfolding feed upTo ends
 feed-line [] d line n e = absurd (false≢true e)
 feed-line (c ∷ s) d line n e =
-    either (eqb c 10)
-    (λ t. rw (t, count-none))
+    either (eqb c 10) (λ t. rw (t, count-none))
     (λ f. rw f (rw (length-set, count-more, keep-more) at (feed-line s d (set line n c) (countOf (length line) n 1) (rw f at e))))
 
 -- in two parts

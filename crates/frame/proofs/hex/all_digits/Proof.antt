@@ -1,4 +1,4 @@
--- `frame::all_digits` meets its contract.
+-- `frame::hex::all_digits` meets its contract.
 -- Assumes nothing.
 use Prim.Native.Nat.{_≤_, _-_}
 use mathlib.Core.Path.{_≡_, refl}

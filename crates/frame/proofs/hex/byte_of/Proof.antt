@@ -1,4 +1,4 @@
--- `frame::byte_of` meets its contract.
+-- `frame::hex::byte_of` meets its contract.
 -- Assumes nothing.
 use Rattle.frame.specs.Hex.{isDigit, byteOf}
 use borrow.Author.Needs.{needs}

@@ -1,4 +1,4 @@
--- `frame::decode` meets its contract.
+-- `frame::hex::decode` meets its contract.
 -- Assumes nothing.
 use mathlib.Core.Path.{sym, _∙_}
 use native.Mathlib.Omega.{arith}

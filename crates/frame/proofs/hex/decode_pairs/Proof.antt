@@ -1,4 +1,4 @@
--- `frame::decode_pairs` meets its contract.
+-- `frame::hex::decode_pairs` meets its contract.
 -- Assumes nothing.
 use Prim.Native.Nat.{_+_, _*_, _/_, _-_, _<_, _≤_}
 use mathlib.Core.Path.{_≡_, refl}

@@ -1,4 +1,4 @@
--- `frame::glyph` meets its contract.
+-- `frame::hex::glyph` meets its contract.
 -- Assumes nothing.
 use Rattle.laws.proofs.Branches.{calls}
 use Rattle.frame.specs.Hex.{glyph}

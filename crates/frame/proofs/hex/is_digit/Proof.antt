@@ -1,4 +1,4 @@
--- `frame::is_digit` meets its contract.
+-- `frame::hex::is_digit` meets its contract.
 -- Assumes nothing.
 use Rattle.frame.specs.Hex.{isDigit}
 use Rattle.frame.proofs.hex.is_digit.Statement.{statement}

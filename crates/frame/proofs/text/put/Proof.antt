@@ -1,4 +1,4 @@
--- `frame::put` meets its contract.
+-- `frame::text::put` meets its contract.
 -- Assumes nothing.
 use mathlib.Core.Path.{sym}
 use lib.Seq.{set-out}

@@ -1,4 +1,4 @@
--- `frame::put_answer` meets its contract.
+-- `frame::text::put_answer` meets its contract.
 -- Assumes nothing.
 use Rattle.frame.proofs.Lines.{answer-length, answer-stored}
 use borrow.Author.Needs.{needs}

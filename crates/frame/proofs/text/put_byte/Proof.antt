@@ -1,4 +1,4 @@
--- `frame::put_byte` meets its contract.
+-- `frame::text::put_byte` meets its contract.
 -- Assumes nothing.
 use native.Mathlib.Numerals.{add-one}
 use Rattle.frame.specs.Hex.{hexOf}

@@ -1,4 +1,4 @@
--- `frame::put_reply` meets its contract.
+-- `frame::text::put_reply` meets its contract.
 -- Assumes nothing.
 use Prim.Native.Nat.{_≤_, _-_}
 use mathlib.Core.Path.{_≡_, refl, ap, _∙_}
