@@ -1,6 +1,6 @@
 //! Two programs on the same frame file, run in turn.
 
-use crate::race::Times;
+use crate::race::{ratio, Times};
 use std::fs::{self, File};
 use std::process::{Command, Stdio};
 use std::time::{Duration, Instant};
@@ -46,7 +46,7 @@ pub fn compare(bench: &str, reference: &str, file: &str) {
     println!("| Program | ms | frames a second |");
     println!("|---|---|---|");
     for (name, times) in [("bench", ours), ("reference", theirs)] {
-        let rate = |ms: f64| (frames as f64 / ms * 1e3).floor();
+        let rate = |ms: f64| (frames as f64 / ms * 1e3).round();
         println!(
             "| {name} | {:.1} / {:.1} | {} / {} |",
             times.best,
@@ -56,8 +56,7 @@ pub fn compare(bench: &str, reference: &str, file: &str) {
         );
     }
     println!(
-        "\nTime of bench over time of reference: {:.2} / {:.2}",
-        ours.best / theirs.best,
-        ours.median / theirs.median
+        "\nTime of bench over time of reference: {}",
+        ratio(ours, theirs)
     );
 }

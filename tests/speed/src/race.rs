@@ -63,11 +63,13 @@ pub fn race(calls: usize, candidates: &mut [Candidate]) -> Vec<Times> {
         .collect()
 }
 
-fn ratio(ours: Times, theirs: Times) -> String {
+/// Rounded up, so that no ratio is shown smaller than it is.
+pub fn ratio(ours: Times, theirs: Times) -> String {
+    let up = |ours: f64, theirs: f64| (ours / theirs * 100.0).ceil() / 100.0;
     format!(
         "{:.2} / {:.2}",
-        ours.best / theirs.best,
-        ours.median / theirs.median
+        up(ours.best, theirs.best),
+        up(ours.median, theirs.median)
     )
 }
 
