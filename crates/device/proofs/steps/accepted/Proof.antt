@@ -1,4 +1,4 @@
--- `device::accepted` meets its contract.
+-- `device::steps::accepted` meets its contract.
 -- Assumes nothing.
 use mathlib.Core.Path.{sym}
 use borrow.Author.Needs.{needs}

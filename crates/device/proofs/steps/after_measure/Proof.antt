@@ -1,4 +1,4 @@
--- `device::after_measure` meets its contract.
+-- `device::steps::after_measure` meets its contract.
 -- Assumes nothing.
 use Rattle.laws.proofs.Branches.{calls}
 use Rattle.device.specs.Step.{afterMeasure}

@@ -1,4 +1,4 @@
--- `device::after_write` meets its contract.
+-- `device::steps::after_write` meets its contract.
 -- Assumes nothing.
 use Rattle.laws.proofs.Branches.{calls}
 use Rattle.device.specs.Step.{afterWrite}

@@ -1,4 +1,4 @@
--- `device::alert_after` meets its contract.
+-- `device::steps::alert_after` meets its contract.
 -- Assumes nothing.
 use Rattle.laws.proofs.Branches.{calls}
 use Rattle.device.specs.Device.{clearedAlert, alertOfBits}

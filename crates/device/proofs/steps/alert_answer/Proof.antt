@@ -1,4 +1,4 @@
--- `device::alert_answer` meets its contract.
+-- `device::steps::alert_answer` meets its contract.
 -- Assumes nothing.
 use Rattle.laws.proofs.Branches.{calls}
 use Rattle.device.specs.Step.{alertAnswerOf}

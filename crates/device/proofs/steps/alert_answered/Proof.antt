@@ -1,4 +1,4 @@
--- `device::alert_answered` meets its contract.
+-- `device::steps::alert_answered` meets its contract.
 -- Assumes nothing.
 use Rattle.device.specs.Step.{alertAnsweredDevice}
 use borrow.Author.Needs.{needs}

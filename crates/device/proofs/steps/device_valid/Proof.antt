@@ -1,4 +1,4 @@
--- `device::device_valid` meets its contract.
+-- `device::steps::device_valid` meets its contract.
 -- Assumes nothing.
 use Rattle.device.specs.Device.{deviceValid}
 use borrow.Author.Needs.{needs}

@@ -1,4 +1,4 @@
--- `device::measured` meets its contract.
+-- `device::steps::measured` meets its contract.
 -- Assumes nothing.
 use Rattle.device.specs.Step.{measuredDone}
 use borrow.Author.Needs.{needs}

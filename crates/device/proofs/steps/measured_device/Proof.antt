@@ -1,4 +1,4 @@
--- `device::measured_device` meets its contract.
+-- `device::steps::measured_device` meets its contract.
 -- Assumes nothing.
 use borrow.Author.Needs.{needs}
 use Rattle.device.specs.Device.{pageAt, putPage}

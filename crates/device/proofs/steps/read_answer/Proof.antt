@@ -1,4 +1,4 @@
--- `device::read_answer` meets its contract.
+-- `device::steps::read_answer` meets its contract.
 -- Assumes nothing.
 use Rattle.laws.proofs.Branches.{calls}
 use borrow.Author.Needs.{needs}

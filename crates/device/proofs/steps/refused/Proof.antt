@@ -1,4 +1,4 @@
--- `device::refused` meets its contract.
+-- `device::steps::refused` meets its contract.
 -- Assumes nothing.
 use Rattle.device.specs.Step.{refusedDevice}
 use borrow.Author.Needs.{needs}

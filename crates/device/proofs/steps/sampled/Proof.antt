@@ -1,4 +1,4 @@
--- `device::sampled` meets its contract.
+-- `device::steps::sampled` meets its contract.
 -- Assumes nothing.
 use Rattle.device.specs.Step.{sampledDone}
 use borrow.Author.Needs.{needs}

@@ -1,4 +1,4 @@
--- `device::transact` meets its contract.
+-- `device::steps::transact` meets its contract.
 -- Assumes nothing.
 use Rattle.device.specs.Step.{transacted}
 use borrow.Author.Needs.{needs}

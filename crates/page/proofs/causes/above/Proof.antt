@@ -1,4 +1,4 @@
--- `page::above` meets its contract.
+-- `page::causes::above` meets its contract.
 -- Assumes nothing.
 use borrow.Author.Needs.{needs}
 use borrow.Author.Tests.{not-true, not-false}

@@ -1,4 +1,4 @@
--- `page::above_unsigned` meets its contract.
+-- `page::causes::above_unsigned` meets its contract.
 -- Assumes nothing.
 use borrow.Author.Needs.{needs}
 use borrow.Author.Tests.{not-true, not-false}

@@ -1,4 +1,4 @@
--- `page::below` meets its contract.
+-- `page::causes::below` meets its contract.
 -- Assumes nothing.
 use borrow.Author.Needs.{needs}
 use borrow.Author.Tests.{not-true, not-false}

@@ -1,4 +1,4 @@
--- `page::off_while_lasts` meets its contract.
+-- `page::causes::off_while_lasts` meets its contract.
 -- Assumes nothing.
 use mathlib.Core.Path.{refl}
 use Rattle.page.specs.Causes.{offWhileLasts}

@@ -1,4 +1,4 @@
--- `page::present_causes` meets its contract.
+-- `page::causes::present_causes` meets its contract.
 -- Assumes nothing.
 use Rattle.page.specs.Causes.{presentCauses}
 use borrow.Author.Needs.{needs}

@@ -1,4 +1,4 @@
--- `page::raised` meets its contract.
+-- `page::causes::raised` meets its contract.
 -- Assumes nothing.
 use Rattle.page.specs.Causes.{raised}
 use borrow.Author.Needs.{needs}

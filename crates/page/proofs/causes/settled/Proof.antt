@@ -1,4 +1,4 @@
--- `page::settled` meets its contract.
+-- `page::causes::settled` meets its contract.
 -- Assumes nothing.
 use Rattle.page.specs.Causes.{settled}
 use borrow.Author.Needs.{needs}

@@ -1,4 +1,4 @@
--- `page::stays_off` meets its contract.
+-- `page::causes::stays_off` meets its contract.
 -- Assumes nothing.
 use mathlib.Core.Path.{refl}
 use Rattle.page.specs.Causes.{staysOff}

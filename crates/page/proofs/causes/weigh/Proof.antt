@@ -1,4 +1,4 @@
--- `page::weigh` meets its contract.
+-- `page::causes::weigh` meets its contract.
 -- Assumes nothing.
 use Rattle.laws.proofs.Branches.{calls}
 use Rattle.page.specs.Causes.{weigh}

@@ -1,4 +1,4 @@
--- `page::cleared` meets its contract.
+-- `page::settings::cleared` meets its contract.
 -- Assumes nothing.
 use mathlib.Core.Path.{refl}
 use Rattle.page.specs.Settings.{cleared}

@@ -1,4 +1,4 @@
--- `page::commanded` meets its contract.
+-- `page::settings::commanded` meets its contract.
 -- Assumes nothing.
 use mathlib.Core.Path.{refl}
 use Rattle.page.specs.Settings.{commanded}

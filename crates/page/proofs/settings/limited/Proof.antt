@@ -1,4 +1,4 @@
--- `page::limited` meets its contract.
+-- `page::settings::limited` meets its contract.
 -- Assumes nothing.
 use mathlib.Core.Path.{refl}
 use Rattle.page.specs.Settings.{limited}

@@ -1,4 +1,4 @@
--- `page::measured` meets its contract.
+-- `page::settings::measured` meets its contract.
 -- Assumes nothing.
 use mathlib.Core.Path.{refl}
 use Rattle.page.specs.Settings.{measured}

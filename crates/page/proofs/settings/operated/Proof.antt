@@ -1,4 +1,4 @@
--- `page::operated` meets its contract.
+-- `page::settings::operated` meets its contract.
 -- Assumes nothing.
 use mathlib.Core.Path.{refl}
 use Rattle.page.specs.Settings.{operated}

@@ -1,4 +1,4 @@
--- `page::page_valid` meets its contract.
+-- `page::settings::page_valid` meets its contract.
 -- Assumes nothing.
 use borrow.Author.Needs.{needs}
 use Rattle.page.specs.Settings.{pageValid}

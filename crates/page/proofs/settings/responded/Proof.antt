@@ -1,4 +1,4 @@
--- `page::responded` meets its contract.
+-- `page::settings::responded` meets its contract.
 -- Assumes nothing.
 use mathlib.Core.Path.{refl}
 use Rattle.page.specs.Settings.{responded}

@@ -1,4 +1,4 @@
--- `page::valid_response` meets its contract.
+-- `page::settings::valid_response` meets its contract.
 -- Assumes nothing.
 use mathlib.Core.Path.{refl}
 use Rattle.page.specs.Settings.{validResponse}

@@ -1,4 +1,4 @@
--- `page::any_status` meets its contract.
+-- `page::status::any_status` meets its contract.
 -- Assumes nothing.
 use mathlib.Core.Path.{refl}
 use Rattle.page.specs.Status.{anyStatus}

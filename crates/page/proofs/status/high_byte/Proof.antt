@@ -1,4 +1,4 @@
--- `page::high_byte` meets its contract.
+-- `page::status::high_byte` meets its contract.
 -- Assumes nothing.
 use Rattle.page.specs.Status.{statusHigh}
 use borrow.Author.Needs.{needs}

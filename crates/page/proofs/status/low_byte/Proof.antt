@@ -1,4 +1,4 @@
--- `page::low_byte` meets its contract.
+-- `page::status::low_byte` meets its contract.
 -- Assumes nothing.
 use borrow.Author.Needs.{needs}
 use Rattle.page.specs.Status.{statusByte}

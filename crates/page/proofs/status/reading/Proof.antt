@@ -1,4 +1,4 @@
--- `page::reading` meets its contract.
+-- `page::status::reading` meets its contract.
 -- Assumes nothing.
 use Rattle.laws.proofs.Branches.{calls}
 use Rattle.page.specs.Status.{reading}

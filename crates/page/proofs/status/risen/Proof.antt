@@ -1,4 +1,4 @@
--- `page::risen` meets its contract.
+-- `page::status::risen` meets its contract.
 -- Assumes nothing.
 use mathlib.Core.Path.{refl}
 use Rattle.page.specs.Status.{risen}

@@ -1,4 +1,4 @@
--- `page::supplies` meets its contract.
+-- `page::status::supplies` meets its contract.
 -- Assumes nothing.
 use Rattle.page.specs.Status.{supplies}
 use borrow.Author.Needs.{needs}

@@ -1,4 +1,4 @@
--- `tongsorrel::order_number` meets its contract.
+-- `tongsorrel::values::order_number` meets its contract.
 -- Assumes nothing.
 use Rattle.tongsorrel.specs.Numbers.{orderNumber}
 use borrow.Author.Needs.{needs}

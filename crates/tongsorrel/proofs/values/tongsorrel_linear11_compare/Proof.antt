@@ -1,4 +1,4 @@
--- `tongsorrel::tongsorrel_linear11_compare` meets its contract.
+-- `tongsorrel::values::tongsorrel_linear11_compare` meets its contract.
 -- Assumes nothing.
 use borrow.Author.Needs.{needs}
 use Rattle.tongsorrel.proofs.values.tongsorrel_linear11_compare.Statement.{statement}

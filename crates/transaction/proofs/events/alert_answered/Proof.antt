@@ -1,4 +1,4 @@
--- `transaction::alert_answered` meets its contract.
+-- `transaction::events::alert_answered` meets its contract.
 -- Assumes nothing.
 use Rattle.transaction.specs.Events.{alertAnswered}
 use Rattle.transaction.proofs.events.alert_answered.Statement.{statement}

@@ -1,4 +1,4 @@
--- `transaction::alert_stream` meets its contract.
+-- `transaction::events::alert_stream` meets its contract.
 -- Assumes nothing.
 use Rattle.laws.proofs.Branches.{calls}
 use Rattle.transaction.specs.Events.{alertStream}

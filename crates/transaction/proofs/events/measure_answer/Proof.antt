@@ -1,4 +1,4 @@
--- `transaction::measure_answer` meets its contract.
+-- `transaction::events::measure_answer` meets its contract.
 -- Assumes nothing.
 use Rattle.laws.proofs.Branches.{calls}
 use Rattle.transaction.specs.Events.{measureAnswer}

@@ -1,4 +1,4 @@
--- `transaction::measured_effect` meets its contract.
+-- `transaction::events::measured_effect` meets its contract.
 -- Assumes nothing.
 use Rattle.transaction.specs.Events.{measuredEffect}
 use borrow.Author.Needs.{needs}

@@ -1,4 +1,4 @@
--- `transaction::answers_data` meets its contract.
+-- `transaction::read::answers_data` meets its contract.
 -- Assumes nothing.
 use Rattle.transaction.specs.Read.{answersData}
 use Rattle.transaction.proofs.read.answers_data.Statement.{statement}

@@ -1,4 +1,4 @@
--- `transaction::data_stream` meets its contract.
+-- `transaction::read::data_stream` meets its contract.
 -- Assumes nothing.
 use Rattle.transaction.specs.Read.{readData, checked}
 use borrow.Author.Needs.{needs}

@@ -1,4 +1,4 @@
--- `transaction::energy` meets its contract.
+-- `transaction::read::energy` meets its contract.
 -- Assumes nothing.
 use borrow.Author.Needs.{needs}
 use Rattle.account.specs.Account.{einBytes}

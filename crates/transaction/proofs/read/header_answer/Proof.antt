@@ -1,4 +1,4 @@
--- `transaction::header_answer` meets its contract.
+-- `transaction::read::header_answer` meets its contract.
 -- Assumes nothing.
 use Rattle.transaction.specs.Read.{headerAnswer}
 use borrow.Author.Needs.{needs}

@@ -1,4 +1,4 @@
--- `transaction::read_data` meets its contract.
+-- `transaction::read::read_data` meets its contract.
 -- Assumes nothing.
 use borrow.Author.Needs.{needs}
 use Rattle.transaction.specs.Read.{readData}

@@ -1,4 +1,4 @@
--- `transaction::read_stream` meets its contract.
+-- `transaction::read::read_stream` meets its contract.
 -- Assumes nothing.
 use Rattle.laws.proofs.Branches.{calls}
 use Rattle.transaction.specs.Read.{readStream}

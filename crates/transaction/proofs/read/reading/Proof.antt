@@ -1,4 +1,4 @@
--- `transaction::reading` meets its contract.
+-- `transaction::read::reading` meets its contract.
 -- Assumes nothing.
 use borrow.Author.Needs.{needs}
 use Rattle.transaction.proofs.read.reading.Statement.{statement}

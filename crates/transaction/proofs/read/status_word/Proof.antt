@@ -1,4 +1,4 @@
--- `transaction::status_word` meets its contract.
+-- `transaction::read::status_word` meets its contract.
 -- Assumes nothing.
 use borrow.Author.Needs.{needs}
 use Rattle.transaction.proofs.read.status_word.Statement.{statement}

@@ -1,4 +1,4 @@
--- `transaction::with_check` meets its contract.
+-- `transaction::read::with_check` meets its contract.
 -- Assumes nothing.
 use borrow.Author.Needs.{needs}
 use Prim.Native.Nat.{ℕ, _+_, _<_}

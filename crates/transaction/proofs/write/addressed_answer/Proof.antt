@@ -1,4 +1,4 @@
--- `transaction::addressed_answer` meets its contract.
+-- `transaction::write::addressed_answer` meets its contract.
 -- Assumes nothing.
 use Rattle.transaction.specs.Write.{addressedAnswer}
 use borrow.Author.Needs.{needs}

@@ -1,4 +1,4 @@
--- `transaction::byte_at` meets its contract.
+-- `transaction::write::byte_at` meets its contract.
 -- Assumes nothing.
 use borrow.Author.Needs.{needs}
 use mathlib.Core.Path.{sym}

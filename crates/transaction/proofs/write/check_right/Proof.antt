@@ -1,4 +1,4 @@
--- `transaction::check_right` meets its contract.
+-- `transaction::write::check_right` meets its contract.
 -- Assumes nothing.
 use Rattle.transaction.specs.Write.{checkRight}
 use borrow.Author.Needs.{needs}

@@ -1,4 +1,4 @@
--- `transaction::clear_faults` meets its contract.
+-- `transaction::write::clear_faults` meets its contract.
 -- Assumes nothing.
 use borrow.Author.Needs.{needs}
 use Rattle.transaction.proofs.write.clear_faults.Statement.{statement}

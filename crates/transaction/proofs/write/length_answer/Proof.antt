@@ -1,4 +1,4 @@
--- `transaction::length_answer` meets its contract.
+-- `transaction::write::length_answer` meets its contract.
 -- Assumes nothing.
 use Rattle.laws.proofs.Branches.{calls}
 use Rattle.transaction.specs.Write.{lengthAnswer}

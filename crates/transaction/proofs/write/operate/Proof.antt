@@ -1,4 +1,4 @@
--- `transaction::operate` meets its contract.
+-- `transaction::write::operate` meets its contract.
 -- Assumes nothing.
 use Rattle.transaction.specs.Write.{settledEffect}
 use borrow.Author.Needs.{needs}

@@ -1,4 +1,4 @@
--- `transaction::permitted` meets its contract.
+-- `transaction::write::permitted` meets its contract.
 -- Assumes nothing.
 use Rattle.laws.proofs.Branches.{calls}
 use Rattle.transaction.specs.Write.{permitted}

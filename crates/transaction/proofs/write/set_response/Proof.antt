@@ -1,4 +1,4 @@
--- `transaction::set_response` meets its contract.
+-- `transaction::write::set_response` meets its contract.
 -- Assumes nothing.
 use Rattle.transaction.specs.Write.{settledEffect}
 use borrow.Author.Needs.{needs}

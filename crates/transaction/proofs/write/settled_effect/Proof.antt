@@ -1,4 +1,4 @@
--- `transaction::settled_effect` meets its contract.
+-- `transaction::write::settled_effect` meets its contract.
 -- Assumes nothing.
 use Rattle.transaction.specs.Write.{settledEffect}
 use borrow.Author.Needs.{needs}

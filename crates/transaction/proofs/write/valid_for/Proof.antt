@@ -1,4 +1,4 @@
--- `transaction::valid_for` meets its contract.
+-- `transaction::write::valid_for` meets its contract.
 -- Assumes nothing.
 use Rattle.transaction.specs.Write.{validData}
 use borrow.Author.Needs.{needs}

@@ -1,4 +1,4 @@
--- `transaction::word_of` meets its contract.
+-- `transaction::write::word_of` meets its contract.
 -- Assumes nothing.
 use Rattle.transaction.specs.Write.{wordOf}
 use borrow.Author.Needs.{needs}

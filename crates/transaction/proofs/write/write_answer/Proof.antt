@@ -1,4 +1,4 @@
--- `transaction::write_answer` meets its contract.
+-- `transaction::write::write_answer` meets its contract.
 -- Assumes nothing.
 use Rattle.laws.proofs.Branches.{calls}
 use Rattle.transaction.specs.Write.{writeAnswer}

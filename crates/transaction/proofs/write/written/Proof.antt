@@ -1,4 +1,4 @@
--- `transaction::written` meets its contract.
+-- `transaction::write::written` meets its contract.
 -- Assumes nothing.
 use borrow.Author.Needs.{needs}
 use Rattle.transaction.specs.Write.{written}
