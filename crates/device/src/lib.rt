@@ -3,11 +3,10 @@
 ghost use mathlib.Core.Path.{_≡_};
 ghost use lib.ListN.{length};
 ghost use Rattle.transaction.specs.Reply.{replyOf};
-ghost use Rattle.device.specs.Device.{powerOn, deviceValid};
+ghost use Rattle.device.specs.Device.{powerOn};
 ghost use Rattle.device.specs.Step.{writeDone, readDone, readReply, measureDone, sampleDone, alertDone, alertReply};
 use page::Page;
 use transaction::Unpaged;
-use transaction::reply::Frame;
 
 pub mod pages; // pages.rt: tests over the eight pages
 pub mod steps; // steps.rt: the parts of a call

@@ -7,7 +7,6 @@ ghost use Rattle.device.specs.Step.{accepted, refusedDevice, afterWrite,
 use super::Device;
 use super::Done;
 use super::pages;
-use command::Command;
 use page::Page;
 use transaction::Unpaged;
 
