@@ -1,10 +1,16 @@
-/* Tongsorrel for C: the functions of libtongsorrel.a (x86-64 Linux; it calls nothing but memcpy).
+/* Tongsorrel for C and C++: the functions of libtongsorrel.a. x86-64 Linux; the archive calls nothing but memcpy.
  *
- * Each function is proved: for all arguments it gives exactly the result named at it, writes nothing but what is named, and ends. "Document 01"
- * is the specification; the contracts in crates/tongsorrel/src cite its definitions.
+ * Each function is proved: for all arguments it gives exactly the result named at it, writes nothing but what is named, and ends.
+ * Numbers such as 7.6 are clauses of docs/DATASHEET.md.
  *
- * What the caller owes: a pointer is not NULL, not even beside a length of 0; that many bytes stand behind it, and nothing else uses a
- * buffer that is written while the function runs. A bool holds 0 or 1. */
+ * What the caller owes:
+ *   - A pointer is not NULL, not even beside a length of 0, and that many bytes stand behind it.
+ *   - A buffer that is written overlaps no other argument, and nothing else uses it while the function runs.
+ *   - A bool holds 0 or 1. Every other field may hold anything (12.1).
+ * The functions keep nothing between calls and share nothing, so they may run in any number of threads and in signal handlers.
+ *
+ * Stack: a call takes at most TONGSORREL_STACK bytes from its return address down. The caller's own copies come on top: a device handed over
+ * has 332 bytes, a result 336. tests/stack.c measures it on a painted stack, over every code, length and answer, and fails if it is more. */
 #ifndef TONGSORREL_H
 #define TONGSORREL_H
 
@@ -16,28 +22,122 @@
 extern "C" {
 #endif
 
+#define TONGSORREL_STACK 1536
+
+/* ---- names */
+
+/* The address bytes (2.1). */
+enum {
+    TONGSORREL_ADDRESS_WRITE = 0xC0,
+    TONGSORREL_ADDRESS_READ = 0xC1,
+};
+
+/* Answer numbers (section 11). */
+enum {
+    TONGSORREL_DONE = 0,
+    TONGSORREL_WRONG_ADDRESS = 1,
+    TONGSORREL_MALFORMED = 2,
+    TONGSORREL_UNSUPPORTED_COMMAND = 3,
+    TONGSORREL_TOO_FEW_DATA = 5,
+    TONGSORREL_TOO_MANY_DATA = 6,
+    TONGSORREL_WRONG_PEC = 7,
+    TONGSORREL_PROTECTED = 8,
+    TONGSORREL_INVALID_DATA = 9,
+    TONGSORREL_READ_TOO_SHORT = 10,
+    TONGSORREL_READ_TOO_LONG = 11,
+    TONGSORREL_NO_SUCH_PLACE = 12,
+    TONGSORREL_SAMPLE_TOO_LARGE = 13,
+    TONGSORREL_ALERT_DOWN = 14,
+    TONGSORREL_INVALID_STATE = 15,
+    TONGSORREL_WRONG_REPLY_LENGTH = 20,
+    TONGSORREL_WRONG_REPLY_PEC = 21,
+    TONGSORREL_WRONG_COUNT_BYTE = 22,
+    TONGSORREL_ACCUMULATOR_TOO_LARGE = 23,
+    TONGSORREL_TOTAL_FULL = 24,
+};
+
+/* Command codes (3.1). */
+enum {
+    TONGSORREL_CODE_PAGE = 0x00,
+    TONGSORREL_CODE_OPERATION = 0x01,
+    TONGSORREL_CODE_CLEAR_FAULTS = 0x03,
+    TONGSORREL_CODE_WRITE_PROTECT = 0x10,
+    TONGSORREL_CODE_CAPABILITY = 0x19,
+    TONGSORREL_CODE_VOUT_MODE = 0x20,
+    TONGSORREL_CODE_VOUT_COMMAND = 0x21,
+    TONGSORREL_CODE_VOUT_OV_FAULT_LIMIT = 0x40,
+    TONGSORREL_CODE_VOUT_OV_FAULT_RESPONSE = 0x41,
+    TONGSORREL_CODE_IOUT_OC_FAULT_LIMIT = 0x46,
+    TONGSORREL_CODE_IOUT_OC_FAULT_RESPONSE = 0x47,
+    TONGSORREL_CODE_OT_FAULT_LIMIT = 0x4F,
+    TONGSORREL_CODE_OT_FAULT_RESPONSE = 0x50,
+    TONGSORREL_CODE_UT_FAULT_LIMIT = 0x53,
+    TONGSORREL_CODE_UT_FAULT_RESPONSE = 0x54,
+    TONGSORREL_CODE_VIN_OV_FAULT_LIMIT = 0x55,
+    TONGSORREL_CODE_VIN_OV_FAULT_RESPONSE = 0x56,
+    TONGSORREL_CODE_VIN_UV_FAULT_LIMIT = 0x59,
+    TONGSORREL_CODE_VIN_UV_FAULT_RESPONSE = 0x5A,
+    TONGSORREL_CODE_STATUS_BYTE = 0x78,
+    TONGSORREL_CODE_STATUS_WORD = 0x79,
+    TONGSORREL_CODE_STATUS_VOUT = 0x7A,
+    TONGSORREL_CODE_STATUS_IOUT = 0x7B,
+    TONGSORREL_CODE_STATUS_INPUT = 0x7C,
+    TONGSORREL_CODE_STATUS_TEMPERATURE = 0x7D,
+    TONGSORREL_CODE_STATUS_CML = 0x7E,
+    TONGSORREL_CODE_READ_EIN = 0x86,
+    TONGSORREL_CODE_READ_VIN = 0x88,
+    TONGSORREL_CODE_READ_VOUT = 0x8B,
+    TONGSORREL_CODE_READ_IOUT = 0x8C,
+    TONGSORREL_CODE_READ_TEMPERATURE_1 = 0x8D,
+    TONGSORREL_CODE_PMBUS_REVISION = 0x98,
+};
+
+/* Quantities (5.1): the argument of tongsorrel_measure, and the places in words, measured and status. */
+enum {
+    TONGSORREL_VOUT = 0,
+    TONGSORREL_IOUT = 1,
+    TONGSORREL_VIN = 2, /* in status: STATUS_INPUT */
+    TONGSORREL_TEMPERATURE = 3,
+    TONGSORREL_QUANTITIES = 4,
+};
+
+/* Causes (6.1): the places in limits and responses. */
+enum {
+    TONGSORREL_VOUT_OV = 0,
+    TONGSORREL_IOUT_OC = 1,
+    TONGSORREL_OT = 2,
+    TONGSORREL_UT = 3,
+    TONGSORREL_VIN_OV = 4,
+    TONGSORREL_VIN_UV = 5,
+    TONGSORREL_CAUSES = 6,
+};
+
+enum { TONGSORREL_PAGES = 8 };
+
 /* ---- packet check and Linear11 values */
 
-/* The packet check (PEC) of the bytes of a transaction, address bytes included: CRC-8, polynomial x^8+x^2+x+1, high bit first, start 0. */
+/* The packet check (PEC) of the bytes of a transaction, address bytes included (2.5, 2.6). */
 uint8_t tongsorrel_pec(const uint8_t *bytes, size_t length);
 
 /* The packet check carried on: crc is the check of the bytes before, 0 where there are none. */
 uint8_t tongsorrel_pec_from(uint8_t crc, const uint8_t *bytes, size_t length);
 
-/* The value of a Linear11 word times 65,536, which is always a whole number: Y * 2^(N + 16). */
+/* The value of a Linear11 word times 65,536, which is always a whole number (5.3, 5.4). */
 int64_t tongsorrel_linear11_scaled(uint16_t word);
 
-/* How the value of the Linear11 word a stands to that of b, exactly. */
-#define TONGSORREL_BELOW 0
-#define TONGSORREL_EQUAL 1
-#define TONGSORREL_ABOVE 2
+/* How the value of the Linear11 word a stands to that of b, exactly (5.5). */
+enum {
+    TONGSORREL_BELOW = 0,
+    TONGSORREL_EQUAL = 1,
+    TONGSORREL_ABOVE = 2,
+};
 uint8_t tongsorrel_linear11_compare(uint16_t a, uint16_t b);
 
 /* ---- the device */
 
-/* Each call takes the whole state by value and hands it back in .device, with the answer number of document 01 in .answer. A state handed in
- * may hold any field values: one that document 01 names for answer 15 comes back as it was. A struct with the fields below is all the
- * library knows of a device, so any number of them may be used side by side, and one may be copied and kept. */
+/* Each call takes the whole state by value and hands it back in .device, with the answer number in .answer. A state handed in may hold any
+ * field values: one that is not valid comes back as it was, with answer 15 (12.2). The struct is all that the library knows of a device,
+ * so any number of them may be used side by side, and one may be copied and kept. */
 
 /* The energy account behind READ_EIN. In a valid state: at most 7FFFh, 255 and 16,777,215. */
 typedef struct tongsorrel_account {
@@ -46,7 +146,8 @@ typedef struct tongsorrel_account {
     uint32_t count;
 } tongsorrel_account;
 
-/* What the device holds beside its pages: PAGE, WRITE_PROTECT, STATUS_CML, the alert and the account. */
+/* What the device holds beside its pages: PAGE (0 to 7), WRITE_PROTECT, STATUS_CML, the alert (SMBALERT# asserted) and the
+ * account. */
 typedef struct tongsorrel_unpaged {
     uint8_t page;
     uint8_t protect;
@@ -55,24 +156,21 @@ typedef struct tongsorrel_unpaged {
     tongsorrel_account energy;
 } tongsorrel_unpaged;
 
-/* One supply.
- * limits, responses: 0 VOUT_OV, 1 IOUT_OC, 2 OT, 3 UT, 4 VIN_OV, 5 VIN_UV.
- * words (the latest, where measured), by quantity: 0 VOUT, 1 IOUT, 2 VIN, 3 temperature.
- * status: 0 STATUS_VOUT, 1 STATUS_IOUT, 2 STATUS_INPUT, 3 STATUS_TEMPERATURE. */
+/* One supply. limits and responses by cause; words (the latest, where measured says so), measured and status by quantity. */
 typedef struct tongsorrel_page {
     uint8_t operation;
-    uint16_t command;
-    uint16_t limits[6];
-    uint8_t responses[6];
-    uint16_t words[4];
-    bool measured[4];
-    uint8_t status[4];
+    uint16_t vout_command;
+    uint16_t limits[TONGSORREL_CAUSES];
+    uint8_t responses[TONGSORREL_CAUSES];
+    uint16_t words[TONGSORREL_QUANTITIES];
+    bool measured[TONGSORREL_QUANTITIES];
+    uint8_t status[TONGSORREL_QUANTITIES];
     bool tripped;
 } tongsorrel_page;
 
 typedef struct tongsorrel_device {
     tongsorrel_unpaged unpaged;
-    tongsorrel_page pages[8];
+    tongsorrel_page pages[TONGSORREL_PAGES];
 } tongsorrel_device;
 
 typedef struct tongsorrel_done {
@@ -80,31 +178,32 @@ typedef struct tongsorrel_done {
     uint8_t answer;
 } tongsorrel_done;
 
-/* The state that power-on leaves. */
+/* The state that power-on leaves (1.4). */
 tongsorrel_device tongsorrel_power_on(void);
 
-/* A write transaction: the bytes from START to STOP, address byte first.
- * Answers 0, 1, 2, 3, 5 to 9, 15. */
+/* A write transaction: the bytes from START to STOP, address byte first. Answers 0, 1, 2, 3, 5 to 9, 15 (11.2). */
 tongsorrel_done tongsorrel_write(tongsorrel_device device, const uint8_t *bytes, size_t length);
 
-/* A read transaction: the header up to the second address byte, and a reply buffer of n bytes, n being the number of bytes that the host
- * clocks. All n bytes are written: data, PEC, then FFh, as far as n goes; FFh throughout with answers 1, 2, 3 and 15.
- * Answers 0, 1, 2, 3, 10, 11, 15. */
+/* A read transaction: the header C0h, code, C1h, and a reply buffer of n bytes, n being the number of bytes that the host clocks. All n bytes
+ * are written (2.9). Answers 0, 1, 2, 3, 10, 11, 15 (11.3). */
 tongsorrel_done tongsorrel_read(tongsorrel_device device, const uint8_t *header, size_t header_length, uint8_t *reply, size_t n);
 
-/* A measurement: the latest word of a quantity (0 VOUT, 1 IOUT, 2 VIN, 3 temperature) on a page. Answers 0, 12, 15. */
+/* A measurement: the latest word of a quantity on a page (5.6), which is 0 to 7 whatever PAGE is. Answers 0, 12, 15. */
 tongsorrel_done tongsorrel_measure(tongsorrel_device device, uint8_t page, uint8_t quantity, uint16_t word);
 
-/* A power sample of 0 to 32767 for the energy account. Answers 0, 13, 15. */
+/* A power sample of 0 to 32767 for the energy account (9.2). Answers 0, 13, 15. */
 tongsorrel_done tongsorrel_sample(tongsorrel_device device, uint16_t sample);
 
-/* An alert response with a reply buffer of n bytes, all of which are written: C0h where it is answered, FFh throughout otherwise.
+/* An alert response with a reply buffer of n bytes, all of which are written: C0h where it is answered, FFh throughout otherwise (8.4, 8.5).
  * Answers 0, 2, 14, 15. */
 tongsorrel_done tongsorrel_alert_response(tongsorrel_device device, uint8_t *reply, size_t n);
 
+/* Whether the firmware keeps the supply of a page switched on (7.6, 7.7). A page over 7 is off. It changes after a write or a measurement. */
+bool tongsorrel_supplies(tongsorrel_device device, uint8_t page);
+
 /* ---- the host's totalizer */
 
-/* Totals of energy and samples since the first accepted reply. last: the account in the last accepted reply. */
+/* Totals of energy and samples since the first accepted reply. last: the account in the last accepted reply (10.1). */
 typedef struct tongsorrel_totalizer {
     bool started;
     bool closed;
@@ -121,23 +220,62 @@ typedef struct tongsorrel_taken {
 /* A totalizer that has accepted nothing. */
 tongsorrel_totalizer tongsorrel_totalizer_fresh(void);
 
-/* One reply, as it came over the bus: the seven bytes of READ_EIN and the PEC, which covers the header C0h 86h C1h too.
- * Answers 0, 15, 20 to 24. */
+/* One reply, as it came over the bus: the seven bytes of READ_EIN and the PEC, which covers the header C0h 86h C1h too (10.2).
+ * Answers 0, 15, 20 to 24 (11.5). */
 tongsorrel_taken tongsorrel_totalizer_take(tongsorrel_totalizer totalizer, const uint8_t *reply, size_t length);
-
-/* A compiler that lays the structs out in another way may not use this library. */
-#ifndef __cplusplus
-_Static_assert(sizeof(tongsorrel_account) == 8, "layout of tongsorrel_account");
-_Static_assert(sizeof(tongsorrel_unpaged) == 12, "layout of tongsorrel_unpaged");
-_Static_assert(sizeof(tongsorrel_page) == 40, "layout of tongsorrel_page");
-_Static_assert(sizeof(tongsorrel_device) == 332, "layout of tongsorrel_device");
-_Static_assert(sizeof(tongsorrel_done) == 336, "layout of tongsorrel_done");
-_Static_assert(sizeof(tongsorrel_totalizer) == 32, "layout of tongsorrel_totalizer");
-_Static_assert(sizeof(tongsorrel_taken) == 40, "layout of tongsorrel_taken");
-#endif
 
 #ifdef __cplusplus
 }
 #endif
+
+/* ---- layout: a compiler that lays the structs out in another way may not use this library */
+
+#ifdef __cplusplus
+#define TONGSORREL_ASSERT(holds, text) static_assert(holds, text)
+#else
+#define TONGSORREL_ASSERT(holds, text) _Static_assert(holds, text)
+#endif
+#define TONGSORREL_SIZE(type, size) TONGSORREL_ASSERT(sizeof(type) == (size), "size of " #type)
+#define TONGSORREL_AT(type, field, offset) TONGSORREL_ASSERT(offsetof(type, field) == (offset), "offset of " #type "." #field)
+
+TONGSORREL_ASSERT(sizeof(bool) == 1, "size of bool");
+TONGSORREL_SIZE(tongsorrel_account, 8);
+TONGSORREL_AT(tongsorrel_account, accumulator, 0);
+TONGSORREL_AT(tongsorrel_account, rollover, 2);
+TONGSORREL_AT(tongsorrel_account, count, 4);
+TONGSORREL_SIZE(tongsorrel_unpaged, 12);
+TONGSORREL_AT(tongsorrel_unpaged, page, 0);
+TONGSORREL_AT(tongsorrel_unpaged, protect, 1);
+TONGSORREL_AT(tongsorrel_unpaged, cml, 2);
+TONGSORREL_AT(tongsorrel_unpaged, alert, 3);
+TONGSORREL_AT(tongsorrel_unpaged, energy, 4);
+TONGSORREL_SIZE(tongsorrel_page, 40);
+TONGSORREL_AT(tongsorrel_page, operation, 0);
+TONGSORREL_AT(tongsorrel_page, vout_command, 2);
+TONGSORREL_AT(tongsorrel_page, limits, 4);
+TONGSORREL_AT(tongsorrel_page, responses, 16);
+TONGSORREL_AT(tongsorrel_page, words, 22);
+TONGSORREL_AT(tongsorrel_page, measured, 30);
+TONGSORREL_AT(tongsorrel_page, status, 34);
+TONGSORREL_AT(tongsorrel_page, tripped, 38);
+TONGSORREL_SIZE(tongsorrel_device, 332);
+TONGSORREL_AT(tongsorrel_device, unpaged, 0);
+TONGSORREL_AT(tongsorrel_device, pages, 12);
+TONGSORREL_SIZE(tongsorrel_done, 336);
+TONGSORREL_AT(tongsorrel_done, device, 0);
+TONGSORREL_AT(tongsorrel_done, answer, 332);
+TONGSORREL_SIZE(tongsorrel_totalizer, 32);
+TONGSORREL_AT(tongsorrel_totalizer, started, 0);
+TONGSORREL_AT(tongsorrel_totalizer, closed, 1);
+TONGSORREL_AT(tongsorrel_totalizer, last, 4);
+TONGSORREL_AT(tongsorrel_totalizer, energy, 16);
+TONGSORREL_AT(tongsorrel_totalizer, samples, 24);
+TONGSORREL_SIZE(tongsorrel_taken, 40);
+TONGSORREL_AT(tongsorrel_taken, totalizer, 0);
+TONGSORREL_AT(tongsorrel_taken, answer, 32);
+
+#undef TONGSORREL_AT
+#undef TONGSORREL_SIZE
+#undef TONGSORREL_ASSERT
 
 #endif

@@ -98,6 +98,33 @@ fn power_on() {
 }
 
 #[test]
+fn supplies() {
+    let mut random = Random::new(12);
+    let mut on = 0;
+    for _ in 0..CALLS / 100 {
+        let device = match random.below(4) {
+            0 => states::anything(&mut random),
+            _ => states::valid(&mut random),
+        };
+        let pages = mirror::to_reference(&device).pages;
+        for page in 0..=u8::MAX {
+            let expected = pages.get(usize::from(page)).is_some_and(|p| p.supplies());
+            assert_eq!(
+                library::supplies(device, page),
+                expected,
+                "page {page} of {device:?}"
+            );
+            on += usize::from(expected);
+        }
+    }
+    assert!(on > CALLS / 1000, "{on}");
+    println!(
+        "  supplies: 256 page numbers of {} states agree, {on} on",
+        CALLS / 100
+    );
+}
+
+#[test]
 fn random_calls_on_random_states() {
     let mut random = Random::new(10);
     let (mut seen, mut changes) = (Seen::default(), Changes::default());

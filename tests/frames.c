@@ -1,4 +1,5 @@
-/* The library from C: the nine frames of document 01 through tongsorrel.h, the fields they leave, and an energy reply through the totalizer. */
+/* The library from C: the nine frames of data sheet 13.7 through tongsorrel.h, the fields they leave, and an energy reply
+ * through the totalizer. */
 #include "tongsorrel.h"
 
 #include <stdio.h>
@@ -13,7 +14,7 @@ static void expect(bool holds, const char *what) {
     }
 }
 
-/* One frame of document 01 and the line it gives. */
+/* One frame and the line it gives. */
 typedef struct row {
     const char *frame;
     const char *line;
@@ -82,7 +83,7 @@ static void state(const tongsorrel_device *device) {
     const tongsorrel_page *page = &device->pages[0];
     expect(unpaged->page == 0 && unpaged->protect == 0 && unpaged->cml == 0 && !unpaged->alert, "PAGE, WRITE_PROTECT, CML and the alert");
     expect(unpaged->energy.accumulator == 1000 && unpaged->energy.rollover == 0 && unpaged->energy.count == 1, "the account");
-    expect(page->operation == 0 && page->command == 0x2666, "OPERATION and VOUT_COMMAND");
+    expect(page->operation == 0 && page->vout_command == 0x2666, "OPERATION and VOUT_COMMAND");
     expect(page->limits[0] == 0x2A3D && page->limits[5] == 0xC3F5, "the limits");
     expect(page->responses[0] == 0x80 && page->responses[1] == 0xC0 && page->responses[5] == 0x80, "the responses");
     expect(page->measured[0] && page->words[0] == 0x2A3E && !page->measured[3], "the measurement");

@@ -1,4 +1,4 @@
-//! The lines of document 01's bench sheet that are marked "By program", on the library.
+//! The bench sheet's lines by program (data sheet 14.2), on the library.
 
 use conformance::calls::{on_both, Call};
 use conformance::library;
@@ -38,7 +38,7 @@ fn bench_sheet_by_program() {
     );
 }
 
-/// The frames of document 01, in and out.
+/// The frames of data sheet 13.7, in and out.
 #[test]
 fn frames() {
     let read = |code: u8, n: usize| Call::Read(vec![0xC0, code, 0xC1], n);
@@ -69,5 +69,5 @@ fn frames() {
         frame::answer(&mut second, line.as_bytes(), &mut out).expect("a write to memory");
         assert_eq!(out, format!("{expected}\n").as_bytes(), "{line}");
     }
-    println!("  frames: the nine of document 01 give their nine lines");
+    println!("  frames: the nine of the data sheet give their nine lines");
 }

@@ -1,4 +1,4 @@
-//! The totalizer: the library against the second program, and the cases of document 01 by name.
+//! The totalizer: the library against the second program, and the data sheet's cases by name.
 
 use conformance::library::{self, Account, Taken, Totalizer};
 use conformance::mirror;
@@ -80,7 +80,7 @@ fn fresh() {
     println!("  totalizer: fresh agrees");
 }
 
-/// The rows of document 01 on totals and the closed mark: state, account in the reply, state after, answer.
+/// Totals and the closed mark (data sheet 10.4 to 10.7): state, account in the reply, state after, answer.
 #[test]
 fn totals_and_the_closed_mark() {
     let fresh = library::totalizer_fresh();
@@ -108,7 +108,7 @@ fn totals_and_the_closed_mark() {
             running(one, 0, 0),
             0,
         ),
-        // the wrap of document 01's bench sheet: from 7FFFh, 255, 16777215 to all zero adds 1 and 1
+        // the wrap of data sheet 14.1: from 7FFFh, 255, 16777215 to all zero adds 1 and 1
         (running(TOP, 0, 0), ZERO, running(ZERO, 1, 1), 0),
         // the same reply again adds nothing, also at the top of the totals
         (running(one, 5, 6), one, running(one, 5, 6), 0),

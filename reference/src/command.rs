@@ -1,4 +1,4 @@
-//! The thirty-two command codes (01, "Command codes").
+//! The thirty-two command codes (data sheet 3.1).
 
 use Access::{Read, ReadWrite, Write};
 

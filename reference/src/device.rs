@@ -1,5 +1,5 @@
-//! The device at address 60h: its state and the five kinds of call
-//! (01, "The shelf", "Status and output", "Energy account", "Answer numbers").
+//! The device at address 60h: its state and the five kinds of call (data sheet,
+//! sections 1 to 4, 6 to 9, 11 and 12).
 //!
 //! A state may hold any field values. The fields are wide enough for those that
 //! get answer 15.
@@ -189,7 +189,7 @@ impl Page {
             && (0..6).all(|cause| action(cause, self.responses[cause]).is_some())
     }
 
-    /// Whether a cause is present (01, "Measured values").
+    /// Whether a cause is present (data sheet 6.2).
     pub fn present(&self, cause: usize) -> bool {
         let Cause { quantity, side, .. } = CAUSES[cause];
         let reading = self.readings[quantity];
@@ -208,7 +208,7 @@ impl Page {
         })
     }
 
-    /// Whether the page supplies (01, "Status and output").
+    /// Whether the page supplies (data sheet 7.6).
     pub fn supplies(&self) -> bool {
         self.operation == 0x80 && !self.tripped && !self.has(Action::OffWhileFaultLasts)
     }
@@ -355,8 +355,8 @@ impl Device {
         }
     }
 
-    /// A read transaction: the header up to the second address byte, and a reply
-    /// buffer as long as the number of bytes the host clocks.
+    /// A read transaction: its header, and a reply buffer as long as the number
+    /// of bytes the host clocks.
     pub fn read(&mut self, header: &[u8], reply: &mut [u8]) -> u8 {
         let answer = match self.judge_read(header) {
             Ok(command) => self.reply(command, header, reply),
@@ -508,7 +508,7 @@ impl Device {
         self.alert = self.any_bit();
     }
 
-    /// Whether any bit of any page's four registers or of CML is 1.
+    /// Whether a bit stands on some page or in CML (data sheet 8.3).
     fn any_bit(&self) -> bool {
         self.cml != 0 || self.pages.iter().any(|page| page.status != [0; 4])
     }

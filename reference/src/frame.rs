@@ -1,4 +1,4 @@
-//! The frame file (01, "Frame file"): one frame a line in, one answer a line out.
+//! The frame file (data sheet, section 13): one frame a line in, one answer a line out.
 //! Constant memory, any input bytes whatever.
 
 use crate::device::Device;

@@ -1,5 +1,6 @@
-//! A second program for document 01, written from that document alone and used
-//! to cross-check the delivered one. Plain Rust, std only, no unsafe code.
+//! A second program for the device of the data sheet (docs/DATASHEET.md), written
+//! from the rules alone and used to cross-check the proved one. Plain Rust, std
+//! only, no unsafe code.
 
 #![forbid(unsafe_code)]
 

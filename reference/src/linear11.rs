@@ -1,4 +1,4 @@
-//! Values of measured words and limits (01, "Measured values").
+//! Values of measured words and limits (data sheet, section 5).
 
 use std::cmp::Ordering;
 

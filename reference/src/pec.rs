@@ -1,5 +1,5 @@
 //! The packet check (PEC): CRC-8, polynomial x^8+x^2+x+1, high bit first,
-//! start 0 (01, "The shelf").
+//! start 0 (data sheet 2.5).
 
 /// The PEC of `bytes`, going on from the value `crc`.
 pub fn pec_from(mut crc: u8, bytes: &[u8]) -> u8 {

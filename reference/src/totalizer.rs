@@ -1,4 +1,4 @@
-//! The host's totalizer (01, "Energy account" and answers 15, 20 to 24).
+//! The host's totalizer (data sheet, section 10).
 
 use crate::pec::{pec, pec_from};
 

@@ -1,4 +1,4 @@
-//! The bench sheet of document 01: the starred lines and "By program".
+//! The bench sheet (data sheet, section 14).
 //! The frames above it are in frames.rs.
 
 mod common;

@@ -10,7 +10,7 @@ fn run(input: &[u8]) -> String {
 }
 
 #[test]
-fn example_of_the_document() {
+fn example_of_the_data_sheet() {
     let input =
         "04e803\n0300003e2a\n0201c07ac1\n0201c078c1\n0501\n0501\n01c003\n0501\n0207c086c1\n";
     let output = "00\n00\n0080\n0060\n00c0\n0eff\n00\n00c0\n0006e80300010000\n";

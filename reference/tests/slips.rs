@@ -1,4 +1,4 @@
-//! The list "Easy slips" of document 01, one test each.
+//! Places where a hasty reading of the rules goes wrong, one test each.
 
 mod common;
 use common::*;

@@ -202,7 +202,7 @@ fn present_causes_have_their_bits_after_every_call() {
                 device.measure(next(9) as u8, next(5) as u8, next(65_536) as u16);
             }
             2 => {
-                let (code, data) = WRITTEN[next(17) as usize];
+                let (code, data) = WRITTEN[next(WRITTEN.len() as u64) as usize];
                 let mut bytes = vec![code, (next(8) << 5) as u8, next(256) as u8];
                 if code == 0x00 {
                     bytes[1] >>= 5;

@@ -87,6 +87,7 @@ mod archive {
         pub fn tongsorrel_measure(d: Device, page: u8, quantity: u8, word: u16) -> Done;
         pub fn tongsorrel_sample(d: Device, sample: u16) -> Done;
         pub fn tongsorrel_alert_response(d: Device, reply: *mut u8, n: usize) -> Done;
+        pub fn tongsorrel_supplies(d: Device, page: u8) -> bool;
         pub fn tongsorrel_totalizer_fresh() -> Totalizer;
         pub fn tongsorrel_totalizer_take(t: Totalizer, reply: *const u8, length: usize) -> Taken;
     }
@@ -141,6 +142,10 @@ pub fn sample(d: Device, sample: u16) -> Done {
 
 pub fn alert_response(d: Device, reply: &mut [u8]) -> Done {
     unsafe { archive::tongsorrel_alert_response(d, reply.as_mut_ptr(), reply.len()) }
+}
+
+pub fn supplies(d: Device, page: u8) -> bool {
+    unsafe { archive::tongsorrel_supplies(d, page) }
 }
 
 pub fn totalizer_fresh() -> Totalizer {

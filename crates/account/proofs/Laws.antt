@@ -2,14 +2,14 @@
 -- Assumes nothing.
 use mathlib.Core.Path.{_≡_}
 use mathlib.Core.Bool.{true, _&&_, and-eq-true-iff}
-use mathlib.Core.List.{List, [], _∷_, _++_}
-use Prim.Native.Nat.{ℕ, zero, suc, _+_, _*_, _%_, _/_, _<_, _≤_}
+use mathlib.Core.List.{List, [], _++_}
+use Prim.Native.Nat.{ℕ, _+_, _*_, _%_, _/_, _<_, _≤_}
 use native.Mathlib.Omega.{arith}
 use lib.Dec.{ltb}
-use lib.ListN.{getD}
 use borrow.Author.Tests.{lt-ltb, le-ltb, ltb-true, ltb-false}
 use Rattle.laws.specs.Lists.{Bytes}
 use Rattle.laws.proofs.Branches.{either}
+use Rattle.laws.proofs.Lists.{byte-lt}
 use Rattle.account.specs.declared.Account.{Account}
 use Rattle.account.specs.Account.{accountValid, added, sampled, energyReading, einBytes, accountOf}
 
@@ -92,12 +92,6 @@ reply-back a rest v =
 pub read-back : (a : Account) → accountValid a ≡ true → accountOf (einBytes a) ≡ a
 unfolding einBytes
 read-back a v = reply-back a [] v
-
-pub byte-lt : (s : List ℕ) → Bytes s → (place : ℕ) → getD s place 0 < 256
-unfolding Bytes
-byte-lt [] b place = omega arith
-byte-lt (x ∷ s) b zero = b .0
-byte-lt (x ∷ s) b (suc place) = byte-lt s (b .1) place
 
 -- of the account that bytes carry, only the accumulator can be out of range
 pub carried-valid : (s : List ℕ) → Bytes s → accountOf s .accumulator < 32768 → accountValid (accountOf s) ≡ true

@@ -1,4 +1,4 @@
-// The answer numbers of document 01, by name.
+// The answer numbers (data sheet 11.2 to 11.5), by name.
 
 pub const DONE: u8 = 0;
 
@@ -27,13 +27,14 @@ pub const READ_TOO_SHORT: u8 = 10;
 pub const READ_TOO_LONG: u8 = 11;
 
 // Measurement, power sample, alert response.
-pub const NO_SUCH_QUANTITY: u8 = 12;
+// There is no such page, or no such quantity.
+pub const NO_SUCH_PLACE: u8 = 12;
 
 pub const SAMPLE_TOO_LARGE: u8 = 13;
 
 pub const ALERT_DOWN: u8 = 14;
 
-// The state handed in holds a value that no run gives it.
+// The state handed in holds a value outside the range of PAGE, WRITE_PROTECT, OPERATION, a response or an account. Other fields are not tested.
 pub const INVALID_STATE: u8 = 15;
 
 // The totalizer.

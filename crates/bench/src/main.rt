@@ -1,4 +1,4 @@
-// The bench program: a frame file (document 01, 'Frame file') on standard input, the answers on standard output. What a line does, and that
+// The bench program: a frame file (data sheet 13.1) on standard input, the answers on standard output. What a line does, and that
 // the blocks of a file give the text of its lines, is proved in `frame`; here are the reads and the writes.
 ghost use Prim.Native.Nat.{_≤_, _<_};
 ghost use lib.ListN.{length};

@@ -9,7 +9,7 @@ use Rattle.command.specs.declared.meaning.Command.{Command}
 use Rattle.command.specs.declared.meaning.Command.the-variants.{SelectPage, Operation, ClearFaults, WriteProtect, Capability, VoutMode, VoutCommand, Limit, Response, StatusByte, StatusWord, Status, StatusCml, ReadEin, Reading, Revision, Absent}
 use Rattle.command.specs.Table.{table, rowIn, lookup, entryOf}
 use Rattle.command.specs.Meaning.{commandOf, settingOf, faultOf, readingOf}
-use Rattle.command.specs.Agreement.{rowOf, Agrees, TableAgrees}
+use Rattle.command.specs.Agreement.{rowOf, TableAgrees}
 
 rows : (c : ℕ) → c < 256 → rowIn table c ≡ rowOf c (commandOf c)
 unfolding table rowOf commandOf settingOf faultOf readingOf

@@ -1,3 +1,4 @@
 pub mod Table
 pub mod Meaning
 pub mod Agreement
+pub mod Causes

@@ -1,4 +1,4 @@
--- What a command code means (document 01, 'Command codes': "A command is told apart by its code, in ranges where neighbours are alike").
+-- What a command code means: codes of one kind share a case, told apart by a number (data sheet 3.1).
 -- Assumes nothing.
 use Prim.Native.Nat.{ℕ, _-_}
 use mathlib.Core.Bool.{cond}
@@ -6,7 +6,7 @@ use lib.Dec.{eqb, ltb}
 use Rattle.command.specs.declared.meaning.Command.{Command}
 use Rattle.command.specs.declared.meaning.Command.the-variants.{SelectPage, Operation, ClearFaults, WriteProtect, Capability, VoutMode, VoutCommand, Limit, Response, StatusByte, StatusWord, Status, StatusCml, ReadEin, Reading, Revision, Absent}
 
--- 00 PAGE; 01 OPERATION; 03 CLEAR_FAULTS; 10 WRITE_PROTECT; 19 CAPABILITY; 20 VOUT_MODE; 21 VOUT_COMMAND
+-- 00h to 21h: page, operation, clearing, protection, constants, output voltage
 unfoldable pub settingOf : ℕ → Command
 settingOf c =
     cond (eqb c 0x00) SelectPage
@@ -18,7 +18,7 @@ settingOf c =
     (cond (eqb c 0x21) VoutCommand
     Absent))))))
 
--- limits: 40 VOUT_OV, 46 IOUT_OC, 4F OT, 53 UT, 55 VIN_OV, 59 VIN_UV; their responses: 41, 47, 50, 54, 56, 5A
+-- 40h to 5Ah: the limit and the response of each cause, by the cause's number (data sheet 6.1)
 unfoldable pub faultOf : ℕ → Command
 faultOf c =
     cond (eqb c 0x40) (Limit 0)
@@ -35,8 +35,7 @@ faultOf c =
     (cond (eqb c 0x5A) (Response 5)
     Absent)))))))))))
 
--- 86 READ_EIN; 88 READ_VIN, 8B READ_VOUT, 8C READ_IOUT, 8D READ_TEMPERATURE_1; 98 PMBUS_REVISION
--- "Quantities 0 VOUT, 1 IOUT, 2 VIN, 3 temperature"
+-- 86h to 98h: the account, the latest word of a quantity by its number (data sheet 5.1), the revision
 unfoldable pub readingOf : ℕ → Command
 readingOf c =
     cond (eqb c 0x86) ReadEin
@@ -47,7 +46,7 @@ readingOf c =
     (cond (eqb c 0x98) Revision
     Absent)))))
 
--- by rising bounds; 78 STATUS_BYTE; 79 STATUS_WORD; 7A VOUT, 7B IOUT, 7C INPUT, 7D TEMPERATURE, 7E CML status
+-- by rising bounds; 78h to 7Eh are the status registers
 unfoldable pub commandOf : ℕ → Command
 commandOf c =
     cond (ltb c 0x22) (settingOf c)

@@ -1,4 +1,4 @@
--- The table of command codes (document 01, 'Command codes': "hex; w written, r read, digit = data bytes").
+-- The table of command codes: access and number of data bytes (data sheet 3.1).
 -- Assumes nothing.
 use Prim.Native.Nat.{ℕ}
 use mathlib.Core.Bool.{cond, not}
@@ -62,7 +62,7 @@ rowIn (e ∷ l) c = cond (eqb (e .0) c) e (rowIn l c)
 
 -- what a row says
 unfoldable pub entryOf : Row → Entry
-entryOf e = record { code = e .0; written = not (eqb (bitAnd (e .1) W) 0); read = not (eqb (bitAnd (e .1) R) 0); length = e .2 }
+entryOf e = record { written = not (eqb (bitAnd (e .1) W) 0); read = not (eqb (bitAnd (e .1) R) 0); length = e .2 }
 
 -- what the table says of the code c
 unfoldable pub lookup : ℕ → Entry

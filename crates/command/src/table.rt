@@ -49,7 +49,6 @@ const TABLE: [Row; 32] = [
 
 // A row with its access told apart. A code that the table lacks is neither written nor read.
 pub struct Entry {
-    pub code: u8,
     pub written: bool,
     pub read: bool,
     pub length: u8,
@@ -74,7 +73,6 @@ fn entry_of(row: Row) -> Entry
     ensures { λ r. ⌜ r ≡ entryOf row ⌝ }
 {
     Entry {
-        code: row.0,
         written: row.1 & W != 0,
         read: row.1 & R != 0,
         length: row.2,

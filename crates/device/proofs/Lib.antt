@@ -1,1 +1,4 @@
-pub mod Alert
+pub mod States
+pub mod Refused
+pub mod OnePage
+pub mod Calls

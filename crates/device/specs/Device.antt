@@ -1,44 +1,52 @@
--- The state of the shelf device: an unpaged part and eight pages.
+-- The state of a device (data sheet 1.2): an unpaged part and a list of pages. Every definition takes any number of pages; the shelf device
+-- has eight.
 -- Assumes nothing.
-use Prim.Native.Nat.{ℕ, _%_}
-use mathlib.Core.Bool.{Bool, true, false, cond, _&&_, _||_}
+use Prim.Native.Nat.{ℕ}
+use mathlib.Core.Bool.{Bool, _&&_, _||_}
 use mathlib.Core.List.{List}
-use lib.ListN.{getD, set, replicate}
-use lib.Dec.{eqb}
-use Rattle.laws.specs.Lists.{allOf, anyOf}
+use lib.ListN.{length, getD, replicate}
+use lib.Dec.{ltb}
+use Rattle.laws.specs.Lists.{allOf, anyOf, anyPair}
 use Rattle.page.specs.declared.Page.{Page}
 use Rattle.page.specs.Page.{powerOnPage, noPage}
 use Rattle.page.specs.Settings.{pageValid}
-use Rattle.page.specs.Status.{any, anyStatus}
-use Rattle.transaction.specs.declared.Unpaged.{Unpaged}
-use Rattle.transaction.specs.Unpaged.{powerOnUnpaged, unpagedValid, withAlert}
+use Rattle.page.specs.Status.{any, anyStatus, gains, risen}
+use Rattle.unpaged.specs.declared.Unpaged.{Unpaged}
+use Rattle.unpaged.specs.Unpaged.{powerOnUnpaged, unpagedValid, withAlert}
 use Rattle.device.specs.declared.Device.{Device}
 
 abbrev pub device : Unpaged → List Page → Device
 device u ps = record { unpaged = u; pages = ps }
 
-unfoldable pub powerOn : Device
-powerOn = device powerOnUnpaged (replicate 8 powerOnPage)
+-- a device of n pages after power-on (data sheet 1.4)
+unfoldable pub powerOn : ℕ → Device
+powerOn n = device powerOnUnpaged (replicate n powerOnPage)
 
--- "Answer 15 goes exactly to one whose PAGE, OPERATION, WRITE_PROTECT or a response is not valid data, whose accumulator is over 7FFFh, or
--- whose rollover or sample count is beyond 8 or 24 bits": OPERATION and the responses of every page
+-- a device has one to ninety-six pages
+unfoldable pub supported : ℕ → Bool
+supported n = ltb 0 n && ltb n 97
+
+-- Every other state gets answer 15: PAGE, WRITE_PROTECT, the account, and OPERATION and the responses of every page are looked at, and nothing
+-- else (data sheet 12.2).
 unfoldable pub deviceValid : Device → Bool
-deviceValid d = unpagedValid (d .unpaged) && allOf pageValid (d .pages)
+deviceValid d = supported (length (d .pages)) && unpagedValid (length (d .pages)) (d .unpaged) && allOf pageValid (d .pages)
 
--- page i; i is below 8 wherever a call gets this far
-unfoldable pub pageAt : List Page → ℕ → Page
-pageAt ps i = getD ps (i % 8) noPage
+-- page i; a call that gets this far has it
+abbrev pub pageOf : Device → ℕ → Page
+pageOf d i = getD (d .pages) i noPage
 
-unfoldable pub putPage : List Page → ℕ → Page → List Page
-putPage ps i p = set ps (i % 8) p
+-- some bit of STATUS_CML or of a page's four registers is 1,
+abbrev pub standing : Device → Bool
+standing d = anyOf anyStatus (d .pages) || any (d .unpaged .cml)
 
--- "After an accepted CLEAR_FAULTS it is up exactly when any bit of any page's four registers or of CML is 1."
-unfoldable pub alertOfBits : Unpaged → List Page → Device
-alertOfBits u ps = device (withAlert u (anyOf anyStatus ps || any (u .cml))) ps
+-- or was 0 in d and is 1 in e
+abbrev pub turned : Device → Device → Bool
+turned d e = gains (d .unpaged .cml) (e .unpaged .cml) || anyPair risen (d .pages) (e .pages)
 
--- the listed clearings, by command code
-abbrev pub clearing : ℕ → Bool
-clearing code = eqb code 0x03
+-- e with the alert that a call leaves which came from d: it rises with a bit that turned (data sheet 8.1),
+unfoldable pub alertRisen : Device → Device → Device
+alertRisen d e = device (withAlert (e .unpaged) (d .unpaged .alert || turned d e)) (e .pages)
 
-unfoldable pub clearedAlert : Unpaged → List Page → ℕ → Device
-clearedAlert u ps code = cond (clearing code) (alertOfBits u ps) (device u ps)
+-- or, after a clearing, is up exactly while some bit is 1 (data sheet 8.3)
+unfoldable pub alertStanding : Device → Device
+alertStanding e = device (withAlert (e .unpaged) (standing e)) (e .pages)

@@ -2,14 +2,14 @@
 // hands it back with the answer number. Any bytes, numbers and states are taken.
 ghost use mathlib.Core.Path.{_≡_};
 ghost use lib.ListN.{length};
-ghost use Rattle.transaction.specs.Reply.{replyOf};
 ghost use Rattle.device.specs.Device.{powerOn};
-ghost use Rattle.device.specs.Step.{writeDone, readDone, readReply, measureDone, sampleDone, alertDone, alertReply};
+ghost use Rattle.device.specs.Step.{write, read, measure, sample, alertResponse, step};
 use page::Page;
-use transaction::Unpaged;
+use unpaged::Unpaged;
 
 pub mod pages; // pages.rt: tests over the eight pages
-pub mod steps; // steps.rt: the parts of a call
+mod steps; // steps.rt: the parts of a call
+pub mod supply; // supply.rt: whether a supply is on
 
 #[repr(C)]
 pub struct Device {
@@ -17,7 +17,7 @@ pub struct Device {
     pub pages: [Page; 8],
 }
 
-// The state after a call, and the answer number of document 01.
+// The state after a call, and the answer number.
 #[repr(C)]
 pub struct Done {
     pub device: Device,
@@ -25,9 +25,9 @@ pub struct Done {
 }
 
 pub fn power_on() -> Device
-    ensures { λ r. ⌜ r ≡ powerOn ⌝ }
+    ensures { λ r. ⌜ r ≡ powerOn 8 ⌝ }
 {
-    let u = transaction::power_on_unpaged();
+    let u = unpaged::power_on_unpaged();
     let p = page::power_on_page();
     Device {
         unpaged: u,
@@ -37,78 +37,82 @@ pub fn power_on() -> Device
 
 // A write transaction: the bytes from START to STOP.
 pub fn write(d: Device, bytes: &[u8]) -> Done
-    ensures { λ r. ⌜ r ≡ writeDone d (now (bytes .entry)) ⌝ }
+    ensures { λ r. ⌜ r ≡ step d (write (now (bytes .entry))) .done ⌝ }
 {
-    if !steps::device_valid(d) {
-        return Done {
-            device: d,
-            answer: answer::INVALID_STATE,
-        };
+    let u = d.unpaged;
+    let valid = steps::device_valid(d);
+    let rule = writes::write_answer(8, u, bytes);
+    let answer = steps::answered(valid, rule);
+    let next = steps::after_write(d, answer, bytes);
+    Done {
+        device: next,
+        answer: answer,
     }
-    steps::transact(d, bytes)
 }
 
-// A read transaction: the header up to the second address byte, and a reply buffer as long as the host clocks bytes.
+// A read transaction: the header, and a reply buffer as long as the host clocks bytes.
 pub fn read(d: Device, header: &[u8], reply: &mut [u8]) -> Done
-    ensures { λ r. ⌜ r ≡ readDone d (now (header .entry)) (length (now (reply .entry))) ⌝ }
-    ensures { λ r. ⌜ now (reply .exit) ≡ replyOf (readReply d (now (header .entry)) (length (now (reply .entry)))) (length (now (reply .entry))) ⌝ }
+    ensures { λ r. ⌜ r ≡ step d (read (now (header .entry)) (length (now (reply .entry)))) .done ⌝ }
+    ensures { λ r. ⌜ now (reply .exit) ≡ step d (read (now (header .entry)) (length (now (reply .entry)))) .reply ⌝ }
 {
     let n = reply.len();
-    let valid = steps::device_valid(d);
-    let answer = steps::read_answer(valid, header, n);
     let u = d.unpaged;
-    let k = (u.page % 8) as usize;
-    let p = d.pages[k];
-    let code = transaction::write::byte_at(header, 1);
-    let frame = transaction::read::read_stream(u, p, answer, code);
-    transaction::reply::send(reply, frame);
-    let v = transaction::refused(u, answer);
-    let mut e = d;
-    e.unpaged = v;
+    let valid = steps::device_valid(d);
+    let rule = reads::answers::read_answer(u, header, n);
+    let answer = steps::answered(valid, rule);
+    let stream = steps::read_stream(d, answer, header, n);
+    reads::reply::send(reply, stream);
+    let next = steps::refused(d, answer);
     Done {
-        device: e,
+        device: next,
         answer: answer,
     }
 }
 
 // The latest word of a quantity (0 VOUT, 1 IOUT, 2 VIN, 3 temperature) on a page.
 pub fn measure(d: Device, page: u8, quantity: u8, word: u16) -> Done
-    ensures { λ r. ⌜ r ≡ measureDone d page quantity word ⌝ }
+    ensures { λ r. ⌜ r ≡ step d (measure page quantity word) .done ⌝ }
 {
-    if !steps::device_valid(d) {
-        return Done {
-            device: d,
-            answer: answer::INVALID_STATE,
-        };
+    let valid = steps::device_valid(d);
+    let rule = unpaged::events::measure_answer(8, page, quantity);
+    let answer = steps::answered(valid, rule);
+    let next = steps::after_measure(d, answer, page, quantity, word);
+    Done {
+        device: next,
+        answer: answer,
     }
-    steps::measured(d, page, quantity, word)
 }
 
 // A power sample for the energy account.
-pub fn sample(d: Device, sample: u16) -> Done
-    ensures { λ r. ⌜ r ≡ sampleDone d sample ⌝ }
+pub fn sample(d: Device, power: u16) -> Done
+    ensures { λ r. ⌜ r ≡ step d (sample power) .done ⌝ }
 {
-    if !steps::device_valid(d) {
-        return Done {
-            device: d,
-            answer: answer::INVALID_STATE,
-        };
+    let energy = d.unpaged.energy;
+    let valid = steps::device_valid(d);
+    let s = account::sample(energy, power);
+    let a = s.account;
+    let answer = steps::answered(valid, s.answer);
+    let next = steps::after_sample(d, answer, power, a);
+    Done {
+        device: next,
+        answer: answer,
     }
-    steps::sampled(d, sample)
 }
 
 // The alert response: the device that holds the alert up answers with its address.
 pub fn alert_response(d: Device, reply: &mut [u8]) -> Done
-    ensures { λ r. ⌜ r ≡ alertDone d (length (now (reply .entry))) ⌝ }
-    ensures { λ r. ⌜ now (reply .exit) ≡ replyOf (alertReply d (length (now (reply .entry)))) (length (now (reply .entry))) ⌝ }
+    ensures { λ r. ⌜ r ≡ step d (alertResponse (length (now (reply .entry)))) .done ⌝ }
+    ensures { λ r. ⌜ now (reply .exit) ≡ step d (alertResponse (length (now (reply .entry)))) .reply ⌝ }
 {
     let n = reply.len();
-    let answer = steps::alert_answer(d, n);
-    let frame = transaction::events::alert_stream(answer);
-    transaction::reply::send(reply, frame);
-    let e = steps::alert_answered(d, answer);
+    let valid = steps::device_valid(d);
+    let rule = unpaged::events::alert_answer(d.unpaged.alert, n);
+    let answer = steps::answered(valid, rule);
+    let stream = reads::reply::alert_stream(answer);
+    reads::reply::send(reply, stream);
+    let next = steps::after_alert(d, answer);
     Done {
-        device: e,
+        device: next,
         answer: answer,
     }
 }

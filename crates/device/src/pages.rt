@@ -1,4 +1,4 @@
-// Tests over the eight pages. They hand back a truth value only: a device that came through them would be copied field by field.
+// Tests over the eight pages, which hand back a truth value only: a device that came through them would be copied field by field.
 ghost use mathlib.Core.Path.{_≡_};
 ghost use Rattle.page.specs.Settings.{pageValid};
 ghost use Rattle.page.specs.Status.{anyStatus};

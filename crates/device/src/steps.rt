@@ -1,14 +1,23 @@
-// The parts of a call: a page is taken out, a rule works on it and the unpaged part, and both are put back.
+// The parts of a call: its answer, then what it leaves. A page is taken out, a rule works on it, and it is put back.
 ghost use mathlib.Core.Path.{_≡_};
-ghost use mathlib.Core.Bool.{cond};
-ghost use Rattle.transaction.specs.Read.{readAnswer};
-ghost use Rattle.device.specs.Device.{deviceValid, clearedAlert};
-ghost use Rattle.device.specs.Step.{accepted, refusedDevice, afterWrite, transacted, measuredDevice, afterMeasure, measuredDone, sampledDone, alertAnswerOf, alertAnsweredDevice};
+ghost use mathlib.Core.Bool.{false, cond, _||_};
+ghost use Prim.Native.Nat.{ℕ, _<_};
+ghost use lib.ListN.{length};
+ghost use Rattle.laws.specs.Lists.{anyOf};
+ghost use Rattle.account.specs.Account.{sampled};
+ghost use Rattle.page.specs.Status.{any, anyStatus};
+ghost use Rattle.writes.specs.Left.{clearing};
+ghost use Rattle.reads.specs.Reply.{stream};
+ghost use Rattle.unpaged.specs.Unpaged.{withAlert, withEnergy};
+ghost use Rattle.device.specs.Device.{device, deviceValid};
+ghost use Rattle.device.specs.Step.{write, read, measure, sample, alertResponse, answered, written, measured, effect, refusedDevice, left, sent, done, step};
 use super::Device;
-use super::Done;
 use super::pages;
+use account::Account;
 use page::Page;
-use transaction::Unpaged;
+use reads::reply::Stream;
+use unpaged::Unpaged;
+use writes::Write;
 
 // A state that no answer 15 goes to.
 pub fn device_valid(d: Device) -> bool
@@ -16,161 +25,154 @@ pub fn device_valid(d: Device) -> bool
 {
     let u = d.unpaged;
     let ps = d.pages;
-    transaction::unpaged_valid(u) & pages::all_valid(ps)
+    unpaged::unpaged_valid(8, u) & pages::all_valid(ps)
 }
 
-// The alert after an accepted write of a code: after a clearing, up exactly when a bit stands on any page or in STATUS_CML.
-fn alert_after(u: Unpaged, ps: [Page; 8], code: u8) -> bool
-    ensures { λ r. ⌜ r ≡ clearedAlert u ps code .unpaged .alert ⌝ }
+// The answer of a call, which is 15 whatever it is where the state is not valid.
+pub fn answered(valid: bool, answer: u8) -> u8
+    ensures { λ r. ⌜ r ≡ cond valid answer 15 ⌝ }
 {
-    if code == 0x03 {
+    if !valid {
+        return answer::INVALID_STATE;
+    }
+    answer
+}
+
+pub fn refused(d: Device, answer: u8) -> Device
+    ensures { λ r. ⌜ r ≡ refusedDevice d answer ⌝ }
+{
+    let u = d.unpaged;
+    let ps = d.pages;
+    let v = unpaged::refused(u, answer);
+    Device {
+        unpaged: v,
+        pages: ps,
+    }
+}
+
+// The alert after an accepted write: after a clearing, up exactly when a bit stands on any page or in STATUS_CML.
+fn alert_after(w: Write, u: Unpaged, ps: [Page; 8], rose: bool) -> bool
+    ensures { λ r. ⌜ r ≡ cond (clearing w) (anyOf anyStatus ps || any (u .cml)) (u .alert || rose) ⌝ }
+{
+    if writes::left::clears(w) {
         return pages::any_bit(ps) | (u.cml != 0);
     }
-    u.alert
+    u.alert | rose
 }
 
-// An accepted write: its code, and its first two data bytes or 0. The device is copied once and changed in the copy.
-fn accepted(d: Device, code: u8, x: u8, y: u8) -> Device
-    ensures { λ r. ⌜ r ≡ accepted d code x y ⌝ }
+// An accepted write, to the selected page. The device is copied once and changed in the copy.
+fn written(d: Device, w: Write) -> Device
+    requires { ⌜ (d .unpaged .page < 8) × (d .unpaged .page < length (d .pages)) ⌝ }
+    ensures { λ r. ⌜ r ≡ written d w ⌝ }
 {
     let u = d.unpaged;
     let k = (u.page % 8) as usize;
     let mut next = d;
     let p = next.pages[k];
-    let command = command::command_of(code);
-    let word = transaction::write::word_of(x, y);
-    let e = transaction::write::written(u, p, command, x, word);
-    let v = e.unpaged;
-    let q = e.page;
+    let q = writes::left::page_left(w, p);
+    let v = writes::left::unpaged_left(w, u);
+    let rose = page::status::risen(p, q);
     next.unpaged = v;
     next.pages[k] = q;
     let qs = next.pages;
-    next.unpaged.alert = alert_after(v, qs, code);
+    next.unpaged.alert = alert_after(w, v, qs, rose);
     next
 }
 
-// A refused write.
-fn refused(d: Device, answer: u8) -> Device
-    ensures { λ r. ⌜ r ≡ refusedDevice d answer ⌝ }
+fn accepted(d: Device, bytes: &[u8]) -> Device
+    requires { ⌜ (d .unpaged .page < 8) × (d .unpaged .page < length (d .pages)) ⌝ }
+    ensures { λ r. ⌜ r ≡ effect d (write (now (bytes .entry))) ⌝ }
 {
-    let u = d.unpaged;
-    let ps = d.pages;
-    let v = transaction::refused(u, answer);
-    Device {
-        unpaged: v,
-        pages: ps,
-    }
+    let w = writes::asked::asked(bytes);
+    written(d, w)
 }
 
-fn after_write(d: Device, answer: u8, code: u8, x: u8, y: u8) -> Device
-    ensures { λ r. ⌜ r ≡ afterWrite d answer code x y ⌝ }
+pub fn after_write(d: Device, answer: u8, bytes: &[u8]) -> Device
+    requires { ⌜ answer ≡ answered d (write (now bytes)) ⌝ }
+    ensures { λ r. ⌜ done r answer ≡ step d (write (now (bytes .entry))) .done ⌝ }
 {
     if answer == answer::DONE {
-        return accepted(d, code, x, y);
+        return accepted(d, bytes);
     }
     refused(d, answer)
 }
 
-// A write to a valid state.
-pub fn transact(d: Device, bytes: &[u8]) -> Done
-    ensures { λ r. ⌜ r ≡ transacted d (now (bytes .entry)) ⌝ }
+// What a read sends with its answer: of the selected page.
+pub fn read_stream(d: Device, answer: u8, header: &[u8], n: usize) -> Stream
+    requires { ⌜ answer ≡ answered d (read (now header) n) ⌝ }
+    ensures { λ r. ⌜ r ≡ stream (sent d (read (now (header .entry)) n) answer) ⌝ }
 {
     let u = d.unpaged;
-    let answer = transaction::write::write_answer(u.protect, bytes);
-    let code = transaction::write::byte_at(bytes, 1);
-    let x = transaction::write::byte_at(bytes, 2);
-    let y = transaction::write::byte_at(bytes, 3);
-    let e = after_write(d, answer, code, x, y);
-    Done {
-        device: e,
-        answer: answer,
-    }
+    let k = (u.page % 8) as usize;
+    let p = d.pages[k];
+    let code = writes::bytes::byte_at(header, 1);
+    reads::data::read_stream(u, p, answer, code)
 }
 
-// The answer of a read: 15 where the state is not valid.
-pub fn read_answer(valid: bool, header: &[u8], n: usize) -> u8
-    ensures { λ r. ⌜ r ≡ cond valid (readAnswer (now (header .entry)) n) 15 ⌝ }
-{
-    if !valid {
-        return answer::INVALID_STATE;
-    }
-    transaction::read::read_answer(header, n)
-}
-
-fn measured_device(d: Device, page: u8, quantity: u8, word: u16) -> Device
-    ensures { λ r. ⌜ r ≡ measuredDevice d page quantity word ⌝ }
+// An accepted measurement, on its page.
+fn measured(d: Device, page: u8, quantity: u8, word: u16) -> Device
+    requires { ⌜ (page < 8) × (page < length (d .pages)) ⌝ }
+    ensures { λ r. ⌜ r ≡ measured d page quantity word ⌝ }
 {
     let u = d.unpaged;
     let k = (page % 8) as usize;
     let mut next = d;
     let p = next.pages[k];
-    let e = transaction::events::measured_effect(u, p, quantity, word);
-    let v = e.unpaged;
-    let settled = e.page;
-    next.unpaged = v;
-    next.pages[k] = settled;
+    let changed = page::settings::set_measurement(p, quantity, word);
+    let q = page::causes::settled(changed);
+    let rose = page::status::risen(p, q);
+    next.pages[k] = q;
+    next.unpaged.alert = u.alert | rose;
     next
 }
 
-fn after_measure(d: Device, answer: u8, page: u8, quantity: u8, word: u16) -> Device
-    ensures { λ r. ⌜ r ≡ afterMeasure d answer page quantity word ⌝ }
+pub fn after_measure(d: Device, answer: u8, page: u8, quantity: u8, word: u16) -> Device
+    requires { ⌜ answer ≡ answered d (measure page quantity word) ⌝ }
+    ensures { λ r. ⌜ done r answer ≡ step d (measure page quantity word) .done ⌝ }
 {
     if answer == answer::DONE {
-        return measured_device(d, page, quantity, word);
+        return measured(d, page, quantity, word);
     }
-    d
+    refused(d, answer)
 }
 
-// A measurement on a valid state.
-pub fn measured(d: Device, page: u8, quantity: u8, word: u16) -> Done
-    ensures { λ r. ⌜ r ≡ measuredDone d page quantity word ⌝ }
-{
-    let answer = transaction::events::measure_answer(page, quantity);
-    let e = after_measure(d, answer, page, quantity, word);
-    Done {
-        device: e,
-        answer: answer,
-    }
-}
-
-// A power sample on a valid state.
-pub fn sampled(d: Device, sample: u16) -> Done
-    ensures { λ r. ⌜ r ≡ sampledDone d sample ⌝ }
+fn with_account(d: Device, a: Account) -> Device
+    ensures { λ r. ⌜ r ≡ device (withEnergy (d .unpaged) a) (d .pages) ⌝ }
 {
     let u = d.unpaged;
     let ps = d.pages;
-    let energy = u.energy;
-    let s = account::sample(energy, sample);
-    let next = s.account;
-    let v = transaction::events::with_energy(u, next);
-    let e = Device {
-        unpaged: v,
-        pages: ps,
-    };
-    Done {
-        device: e,
-        answer: s.answer,
-    }
-}
-
-// The answer of an alert response of n bytes.
-pub fn alert_answer(d: Device, n: usize) -> u8
-    ensures { λ r. ⌜ r ≡ alertAnswerOf d n ⌝ }
-{
-    if !device_valid(d) {
-        return answer::INVALID_STATE;
-    }
-    transaction::events::alert_answer(d.unpaged.alert, n)
-}
-
-pub fn alert_answered(d: Device, answer: u8) -> Device
-    ensures { λ r. ⌜ r ≡ alertAnsweredDevice d answer ⌝ }
-{
-    let u = d.unpaged;
-    let ps = d.pages;
-    let v = transaction::events::alert_answered(u, answer);
+    let v = unpaged::with_energy(u, a);
     Device {
         unpaged: v,
         pages: ps,
     }
+}
+
+// A sample left the account a.
+pub fn after_sample(d: Device, answer: u8, power: u16, a: Account) -> Device
+    requires { ⌜ a ≡ sampled (d .unpaged .energy) power .account ⌝ }
+    ensures { λ r. ⌜ r ≡ left d (sample power) answer ⌝ }
+{
+    if answer == answer::DONE {
+        return with_account(d, a);
+    }
+    refused(d, answer)
+}
+
+// An answered alert response takes the alert down.
+fn alert_down(d: Device) -> Device
+    ensures { λ r. ⌜ r ≡ device (withAlert (d .unpaged) false) (d .pages) ⌝ }
+{
+    let mut next = d;
+    next.unpaged.alert = false;
+    next
+}
+
+pub fn after_alert(d: Device, answer: u8) -> Device
+    ensures { λ r. ⌜ ((n : ℕ) → r ≡ left d (alertResponse n) answer) ⌝ }
+{
+    if answer == answer::DONE {
+        return alert_down(d);
+    }
+    refused(d, answer)
 }

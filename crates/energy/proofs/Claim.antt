@@ -1,4 +1,4 @@
--- Demand 3 for one account: the invariant over any list of events.
+-- The energy claim for one account: the invariant over any list of events.
 -- Assumes nothing.
 use mathlib.Core.List.{List, [], _∷_}
 use Rattle.account.specs.declared.Account.{Account}

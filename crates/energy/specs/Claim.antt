@@ -1,4 +1,4 @@
--- Demand 3, for one account and its totalizer: one claim about every list of events from power-on.
+-- The energy guarantee (data sheet 15.7) for one account and its totalizer: one claim about every list of events from power-on.
 -- Assumes nothing.
 use mathlib.Core.Path.{_≡_}
 use Prim.Native.Nat.{ℕ, _^_}
@@ -21,13 +21,11 @@ totals k = record { sum = k .totalizer .energy; number = k .totalizer .samples }
 
 -- what holds of a copy c with the outcome k, where h is the history up to it and with it
 pub record Holds (c : Copy) (k : Taken) (h : List Entry) : Type 0 where
-  -- "Each changed copy gets 21. Each intact copy is accepted exactly when both numbers of document 01's tally at it are below 2^64,
-  -- and gets 24 otherwise."
+  -- a damaged copy gets 21; an intact one is accepted as long as both numbers of the tally fit 64 bits
   pub answer : k .answer ≡ answerDue c (tally h)
-  -- "After each copy, refused ones included, the totals equal the tally at the latest accepted one, or zero before any."
+  -- the totals are the tally at the latest accepted copy
   pub total : totals k ≡ tally (upTo isAccepted h)
-  -- "They equal the sum and number of samples the device took between the first and the latest accepted reply wherever, between
-  -- neighbouring accepted replies up to there, the sum stayed below 8,388,608 and the number below 16,777,216."
+  -- and the plain sum and number of the samples, where no gap reached a modulus
   pub samples : inBounds h ≡ true → totals k ≡ samplesBetween h
 
 -- every copy in a history
@@ -36,7 +34,6 @@ AtEachCopy [] = Unit
 AtEachCopy (took n ∷ h) = AtEachCopy h
 AtEachCopy (got c k ∷ h) = Holds c k (got c k ∷ h) × AtEachCopy h
 
--- For every list of samples and reads from power-on: "its .. energy replies .. are presented in order to a fresh totalizer, whichever of them
--- are lost, repeated at once or changed within one run of eight adjacent bits". Crate history says the same of every list of a device's calls.
+-- For every list of samples and reads, and every choice of copies. Crate history says the same of every list of a device's calls.
 unfoldable pub Claim : Type 0
 Claim = (es : List Event) → AreEvents powerOn es → AtEachCopy (run powerOn es .log .history)

@@ -26,7 +26,7 @@ pub record Log : Type 0 where
 abbrev pub freshLog : Log
 freshLog = record { totalizer = freshTotalizer; history = [] }
 
--- a power sample of n with this answer: "Samples taken are power samples with answer 0."
+-- a power sample of n with this answer; it was taken where the answer is 0 (data sheet 15.6)
 abbrev pub logSample : Log → ℕ → ℕ → Log
 logSample l n answer =
     record { totalizer = l .totalizer; history = cond (eqb answer 0) (took n ∷ l .history) (l .history) }
@@ -45,9 +45,8 @@ logCopies reply l (c ∷ cs) = logCopies reply (logCopy reply l c) cs
 
 -- ---- one account
 
--- A power sample, of any number; or a read of the energy reply, with the copies of it that the totalizer gets, in order: "any number of
--- copies of each, or none, all before those of a later reply". That a copy may come some time after its read makes no difference: the
--- totalizer sees nothing but copies.
+-- A power sample of any number, or a read with the copies of its reply that the totalizer gets, in order and as many as one likes (data sheet
+-- 15.6). A copy that comes later makes no difference: the totalizer sees copies alone.
 pub data Event : Type 0 where
   sample : ℕ → Event
   read : List Copy → Event

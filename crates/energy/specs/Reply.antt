@@ -8,7 +8,7 @@ use Rattle.pec.specs.Burst.{Changed}
 use Rattle.account.specs.declared.Account.{Account}
 use Rattle.account.specs.Account.{einBytes}
 
--- "the eight bytes left by a read of 86h with n 8 and answer 0": READ_EIN, and the PEC over the header C0h, 86h, C1h and these
+-- the energy reply of an account: the data of READ_EIN and the PEC (data sheet 15.6)
 unfoldable pub energyReply : Account → List ℕ
 energyReply a = einBytes a ++ (pec (0xC0 ∷ 0x86 ∷ 0xC1 ∷ einBytes a) ∷ [])
 
@@ -22,8 +22,7 @@ abbrev pub bytesOf : List ℕ → Copy → List ℕ
 bytesOf reply intact = reply
 bytesOf reply (changed s) = s
 
--- "In a changed copy at least one bit differs, and all that differ lie within eight adjacent ones; in an intact one none does."
--- What the totalizer gets are bytes.
+-- intact, or damaged within eight neighbouring bits; what arrives are bytes (data sheet 15.6)
 abbrev pub IsCopy : List ℕ → Copy → Type 0
 IsCopy reply intact = Unit
 IsCopy reply (changed s) = Changed reply s × Bytes s

@@ -1,4 +1,4 @@
--- What a history says by itself: the tally of document 01, and the samples between accepted replies. Of the totalizer it looks at the
+-- What a history says by itself: the tally (data sheet 15.6), and the samples between accepted replies. Of the totalizer it looks at the
 -- answers alone, and the tally not even at these.
 -- Assumes nothing.
 use Prim.Native.Nat.{ℕ, _+_, _%_}
@@ -17,7 +17,7 @@ abbrev pub isIntact : Copy → Taken → Bool
 isIntact intact k = true
 isIntact (changed s) k = false
 
--- "Accepted is answer 0."
+-- answer 0
 abbrev pub isAccepted : Copy → Taken → Bool
 isAccepted c k = eqb (k .answer) 0
 
@@ -64,8 +64,7 @@ pub record SumAndNumber : Type 0 where
   pub sum : ℕ
   pub number : ℕ
 
--- "The tally is two whole numbers, 0 and 0 at the first intact copy; each later one adds to the first the sum (modulo 8,388,608) of the
--- samples taken between the read of the intact copy before it and its own read, and to the second their number (modulo 16,777,216)."
+-- both sums over the gaps between intact copies, each gap reduced by the modulus of its counter (data sheet 15.6)
 unfoldable pub tally : List Entry → SumAndNumber
 tally h =
     record {
@@ -81,6 +80,6 @@ samplesBetween h =
       number = length (sinceFirst isAccepted (upTo isAccepted h));
     }
 
--- "between neighbouring accepted replies up to there, the sum stayed below 8,388,608 and the number below 16,777,216"
+-- no gap between accepted copies reaches a modulus (data sheet 15.7)
 unfoldable pub inBounds : List Entry → Bool
 inBounds h = allOf (λ g. ltb (sumOf g) 8388608 && ltb (length g) 16777216) (gaps isAccepted h)

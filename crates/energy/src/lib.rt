@@ -1,1 +1,1 @@
-// No code: demand 3 over one energy account and its totalizer, whatever device holds the account.
+// No code: the energy guarantee (data sheet 15.7) over one account and its totalizer, whatever device holds the account.

@@ -103,4 +103,4 @@ feeds-lines (c ∷ s) d line n p h =
 
 pub whole : Whole
 unfolding Whole fileText
-whole line e s = feeds-lines s powerOn line 0 [] (holds-none line e)
+whole line e s = feeds-lines s (powerOn 8) line 0 [] (holds-none line e)

@@ -1,6 +1,6 @@
 -- Laws of a line's bytes, outcome by outcome, and of the text of an answer as it is stored.
 -- Assumes nothing.
-use Prim.Native.Nat.{ℕ, _+_, _*_, _%_, _<_, _≤_}
+use Prim.Native.Nat.{ℕ, suc, _+_, _*_, _%_, _<_, _≤_}
 use mathlib.Core.Path.{_≡_, refl, ap}
 use mathlib.Core.Bool.{true, false, _&&_, and-false, and-eq-true-iff}
 use mathlib.Core.List.{List, [], _∷_}
@@ -57,9 +57,9 @@ module _ (s : List ℕ) where
 module _ (o reply : List ℕ) where
   -- a turn of the loop that stores the digits of a reply
   pub reply-step : (i : ℕ) → i < length reply
-      → sets (sets o 2 (hexOf (take i reply))) (2 + 2 * i) (hexOf (getD reply i 0 ∷ [])) ≡ sets o 2 (hexOf (take (i + 1) reply))
+      → sets (sets o 2 (hexOf (take i reply))) (2 * (i + 1)) (hexOf (getD reply i 0 ∷ [])) ≡ sets o 2 (hexOf (take (i + 1) reply))
   reply-step i h =
-      let e : 2 + length (hexOf (take i reply)) ≡ 2 + 2 * i =
+      let e : 2 + length (hexOf (take i reply)) ≡ 2 * suc i =
       omega (arith, length-hex (take i reply), length-take-le i reply (omega arith)) in
       rw (add-one, take-suc reply i 0 h, hex-append, sets-append) (rw e refl)
 

@@ -11,10 +11,10 @@ use lib.ListN.{length, take, drop, length-append, length-drop, drop-of-length-le
 use lib.Seq.{sets, sets-eq, length-sets, length-take-le, take-at, drop-at, drop-drop, take-add}
 use Rattle.laws.proofs.Branches.{either}
 use Rattle.device.specs.declared.Device.{Device}
-use Rattle.frame.specs.declared.Turn.{Turn}
+use Rattle.frame.specs.declared.LineDone.{LineDone}
 use Rattle.frame.specs.declared.gather.Gathered.{Gathered}
 use Rattle.frame.specs.Gather.{upTo, ends, countOf, gatheredOf, wholeOf, heldIn}
-use Rattle.frame.specs.Line.{lineOutcome, textOf, turnOf}
+use Rattle.frame.specs.Line.{lineOutcome, textOf, lineDone}
 use Rattle.frame.specs.Blocks.{Fed, fed, after, feed, progress, Ran}
 use Rattle.frame.proofs.Outcomes.{part-to-end}
 use Rattle.frame.proofs.Feeding.{feed-gathers, feed-line, feed-append}
@@ -156,8 +156,8 @@ module _ (d : Device) (line₀ : List ℕ) (n : ℕ) (block : List ℕ) (at : �
           }
 
       -- a line ends and is run: its text is behind the others
-      module _ (h : g .ended ≡ true) (room : 513 ≤ length out - m) (w : ℕ) (we : w ≡ wholeOf (length line′) (g .length)) (t : Turn)
-          (te : t ≡ turnOf (lineOutcome e (take w line′))) (short : t .length ≤ 513) (ys : List ℕ)
+      module _ (h : g .ended ≡ true) (room : 513 ≤ length out - m) (w : ℕ) (we : w ≡ wholeOf (length line′) (g .length)) (t : LineDone)
+          (te : t ≡ lineDone (lineOutcome e (take w line′))) (short : t .length ≤ 513) (ys : List ℕ)
           (ye : ys ≡ sets (take (length out - m) (drop m out)) 0 (textOf (lineOutcome e (take w line′)))) where
         goes : feed e line k (take (g .next - i) (drop i block)) ≡ fed (t .device) line′ 0 (textOf (lineOutcome e (take w line′)) ++ [])
         unfolding heldIn
@@ -168,7 +168,7 @@ module _ (d : Device) (line₀ : List ℕ) (n : ℕ) (block : List ℕ) (at : �
             rw (te, we, p, length-is, le) (feed-line s e line k o)
 
         text-is : t .length ≡ length (textOf (lineOutcome e (take w line′)))
-        text-is = ap (λ (x : Turn). x .length) te
+        text-is = ap (λ (x : LineDone). x .length) te
 
         pub goes-on : Running d line₀ n block at out₀ line′ (take m out ++ (ys ++ drop (length out - m) (drop m out))) (t .device) 0 (g .next) (m + t .length)
         goes-on =

@@ -1,4 +1,4 @@
--- A whole frame file (document 01, 'Frame file'), and what the bench program writes for it.
+-- A whole frame file (data sheet 13.1), and what the bench program writes for it.
 -- Assumes nothing.
 use Prim.Native.Nat.{ℕ}
 use mathlib.Core.Path.{_≡_}
@@ -11,7 +11,7 @@ use Rattle.device.specs.Device.{powerOn}
 use Rattle.frame.specs.Line.{lineOutcome, textOf}
 use Rattle.frame.specs.Blocks.{Fed, after, feed}
 
--- the lines of s where a line has begun with the characters p. "A last line without LF counts if it has characters."
+-- the lines of s where a line has begun with the characters p; the last one needs no LF if it has characters (data sheet 13.5)
 unfoldable pub linesFrom : List ℕ → List ℕ → List (List ℕ)
 linesFrom p [] = cond (eqb (length p) 0) [] (p ∷ [])
 linesFrom p (c ∷ s) = cond (eqb c 10) (p ∷ linesFrom [] s) (linesFrom (p ++ (c ∷ [])) s)
@@ -21,9 +21,9 @@ unfoldable pub linesText : Device → List (List ℕ) → List ℕ
 linesText d [] = []
 linesText d (l ∷ ls) = textOf (lineOutcome d l) ++ linesText (lineOutcome d l .done .device) ls
 
--- "lines .. ending in LF, one frame a line": what comes out for a file
+-- what comes out for a file, from power-on on
 unfoldable pub fileText : List ℕ → List ℕ
-fileText s = linesText powerOn (linesFrom [] s)
+fileText s = linesText (powerOn 8) (linesFrom [] s)
 
 -- what the program writes: the text of the characters as they come, and at the end an LF for a line that has characters
 abbrev pub ended : Fed → List ℕ
@@ -31,7 +31,7 @@ ended f = cond (eqb (f .length) 0) (f .text) (f .text ++ feed (f .device) (f .li
 
 -- Fed character by character through a line buffer of 512, a file gives its text,
 unfoldable pub Whole : Type 0
-Whole = (line : List ℕ) → length line ≡ 512 → (s : List ℕ) → ended (feed powerOn line 0 s) ≡ fileText s
+Whole = (line : List ℕ) → length line ≡ 512 → (s : List ℕ) → ended (feed (powerOn 8) line 0 s) ≡ fileText s
 
 -- and where it is cut into blocks does not matter.
 unfoldable pub Cut : Type 0

@@ -8,7 +8,7 @@ use lib.Dec.{leb, eqb}
 use Rattle.laws.specs.Lists.{allOf}
 use Rattle.frame.specs.Hex.{isDigit, pairs, hexOf}
 
--- "longer than 512 before its LF, odd in digits, with any other character" is bad
+-- at most 512 characters, an even number, all of them digits (data sheet 13.4)
 unfoldable pub goodText : List ℕ → Bool
 goodText s = leb (length s) 512 && eqb (length s % 2) 0 && allOf isDigit s
 
@@ -16,6 +16,6 @@ goodText s = leb (length s) 512 && eqb (length s % 2) 0 && allOf isDigit s
 unfoldable pub bytesOf : List ℕ → List ℕ
 bytesOf s = cond (goodText s) (pairs s) []
 
--- "Out, a line each: answer, then reply, two digits a byte."
+-- answer, reply, LF (data sheet 13.3)
 unfoldable pub answerText : ℕ → List ℕ → List ℕ
 answerText answer reply = hexOf (answer ∷ reply) ++ (10 ∷ [])

@@ -1,8 +1,5 @@
-// The frame file (document 01, 'Frame file'): a line of characters in, a call of the device, a line of text out.
-ghost use mathlib.Core.Path.{_≡_};
-ghost use Prim.Native.Nat.{_≤_};
-ghost use lib.Seq.{sets};
-ghost use Rattle.frame.specs.Line.{lineOutcome, textOf, turnOf};
+// The frame file (data sheet 13.1): a line of characters in, a call of the device, a line of text out.
+ghost use Rattle.frame.specs.Line.{lineOutcome, Told};
 use device::Device;
 
 pub mod blocks; // blocks.rt: a file in blocks
@@ -12,28 +9,16 @@ mod hex; // hex.rt: digits as bytes
 mod text; // text.rt: an answer as text
 
 // The state after a line, and the number of characters of its text.
-pub struct Turn {
+pub struct LineDone {
     pub device: Device,
     pub length: usize,
 }
 
-// Runs one line, the characters before its LF: the state handed back, and the text at the front of `out`, as far as `out` goes. A text has
-// at most 513 characters.
-pub fn run_line(d: Device, line: &[u8], out: &mut [u8]) -> Turn
-    ensures { λ r. ⌜ r ≡ turnOf (lineOutcome d (now (line .entry))) ⌝ }
-    ensures { λ _. ⌜ now (out .exit) ≡ sets (now (out .entry)) 0 (textOf (lineOutcome d (now (line .entry)))) ⌝ }
-    ensures { λ r. ⌜ r .length ≤ 513 ⌝ }
+// Runs one line, the characters before its LF: the state handed back, and the text at the front of `out`, as far as `out` goes.
+pub fn run_line(d: Device, line: &[u8], out: &mut [u8]) -> LineDone
+    ensures { λ r. ⌜ Told (lineOutcome d (now (line .entry))) (now (out .entry)) r (now (out .exit)) ⌝ }
 {
     let mut bytes = hex::byte_buffer();
     let n = hex::decode(line, &mut bytes);
-    let b = &bytes[..n];
-    let k = calls::reply_length(b) as usize;
-    let mut reply = calls::reply_buffer();
-    let e = calls::call(d, b, &mut reply[..k]);
-    let length = text::put_answer(out, e.answer, &reply[..k]);
-    let f = e.device;
-    Turn {
-        device: f,
-        length: length,
-    }
+    calls::run_frame(d, &bytes[..n], out)
 }

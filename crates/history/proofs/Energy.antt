@@ -1,45 +1,55 @@
--- Demand 3: energy's invariant holds of the device's account and the log after every call.
+-- The energy claim: energy's invariant holds of the device's account and the log after every call.
 -- Assumes nothing.
 use Prim.Native.Nat.{ℕ}
 use mathlib.Core.Path.{_≡_}
 use mathlib.Core.Bool.{true, _&&_, and-eq-true-iff}
 use mathlib.Core.List.{List, [], _∷_}
 use lib.Dec.{eqb}
-use borrow.Author.Tests.{eqb-true}
+use borrow.Author.Tests.{eqb-true, ne-eqb}
 use Rattle.laws.proofs.Branches.{either}
-use Rattle.account.specs.Account.{einBytes}
+use Rattle.account.specs.Account.{einBytes, sampled}
 use Rattle.energy.specs.Reply.{Copy, AreCopies, energyReply}
 use Rattle.energy.specs.Events.{Log, freshLog, logSample}
 use Rattle.energy.specs.Claim.{AtEachCopy}
 use Rattle.energy.proofs.Invariant.{Good, at-start, after-sample}
 use Rattle.energy.proofs.Claim.{after-copies}
 use Rattle.command.specs.Meaning.{commandOf, readingOf}
-use Rattle.transaction.specs.Unpaged.{powerOnUnpaged}
-use Rattle.transaction.specs.Read.{answersData, readData, checked, readStream}
+use Rattle.unpaged.specs.Unpaged.{powerOnUnpaged}
+use Rattle.reads.specs.Answers.{answersData}
+use Rattle.reads.specs.Data.{readData, checked, readStream}
 use Rattle.device.specs.declared.Device.{Device}
 use Rattle.device.specs.Device.{powerOn, deviceValid}
-use Rattle.device.specs.Step.{Call, write, read, measure, sample, alertResponse, step, readAnswered, sent, readReply, readDone, sampleDone, sampledDone}
+use Rattle.device.specs.Step.{Call, write, read, measure, sample, alertResponse, answerOf, answered, effect, sent, step}
 use Rattle.history.specs.Run.{next, answer}
 use Rattle.history.specs.Accepted.{codeOf}
 use Rattle.history.specs.Energy.{Turn, isEnergyReply, partOf, part, logPart, logAfter, CopiesOf, TrueCopies, Demand3}
-use Rattle.history.proofs.Account.{energyOf, write-keeps, read-keeps, measure-keeps, alert-keeps}
+use Rattle.device.proofs.States.{answer-zero}
+use Rattle.history.proofs.Outcomes.{done-next, by-answer}
+use Rattle.history.proofs.Account.{energyOf, refused-keeps, write-keeps, read-keeps, measure-keeps, alert-keeps}
 
 -- ---- an energy reply is the account's
 
 module _ (d : Device) (header : List ℕ) (n : ℕ) where
   the-reply : isEnergyReply header n (step d (read header n)) ≡ true → step d (read header n) .reply ≡ energyReply (energyOf d)
-  unfolding step readDone readReply sent readStream answersData checked commandOf readingOf readData energyReply einBytes
+  unfolding step sent readStream answersData checked commandOf readingOf readData energyReply einBytes
   the-reply e =
       let a = and-eq-true-iff (eqb (codeOf header) 0x86 && eqb n 8) (eqb (answer d (read header n)) 0) .0 e in
       let b = and-eq-true-iff (eqb (codeOf header) 0x86) (eqb n 8) .0 (a .0) in
-      rw (eqb-true (readAnswered d header n) 0 (a .1), eqb-true (codeOf header) 0x86 (b .0), eqb-true n 8 (b .1))
+      rw (eqb-true (answered d (read header n)) 0 (a .1), eqb-true (codeOf header) 0x86 (b .0), eqb-true n 8 (b .1))
 
 -- ---- a call
 
 module _ (d : Device) (l : Log) (g : Good (energyOf d) l) where
+  not-taken : (n a : ℕ) → (a ≡ 0 → ⊥) → Good (energyOf d) (logSample l n a)
+  not-taken n a r = rw (ne-eqb a 0 r) g
+
   after-sampled : (n : ℕ) → Good (energyOf (next d (sample n))) (logSample l n (answer d (sample n)))
-  unfolding step sampleDone sampledDone
-  after-sampled n = either (deviceValid d) (λ e. rw (e, next, answer) (after-sample (energyOf d) l n g)) (λ e. rw (e, next, answer) g)
+  unfolding step answerOf effect
+  after-sampled n =
+      by-answer d (sample n)
+      (λ z. let a : sampled (energyOf d) n .answer ≡ 0 = answer-zero d (sample n) z in
+      rw (done-next d (sample n) z, z) (rw a at (after-sample (energyOf d) l n g)))
+      (λ r. rw (refused-keeps d (sample n) r) (not-taken n (answer d (sample n)) r))
 
   after-read : (header : List ℕ) (n : ℕ) (cs : List Copy) → CopiesOf cs (partOf (read header n) (step d (read header n)))
       → Good (energyOf d) (logPart l cs (partOf (read header n) (step d (read header n))))
@@ -71,4 +81,4 @@ after-calls d l (t ∷ ts) g m =
 
 pub demand3 : Demand3
 unfolding Demand3 powerOn powerOnUnpaged
-demand3 ts m = after-calls powerOn freshLog ts at-start m
+demand3 n ts m = after-calls (powerOn n) freshLog ts at-start m

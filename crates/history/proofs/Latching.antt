@@ -3,29 +3,25 @@
 use Prim.Native.Nat.{ℕ, _<_}
 use mathlib.Core.Path.{_≡_, sym, ap, ap₂, _∙_}
 use mathlib.Core.Bool.{Bool, true, false, not, _&&_, _||_, and-true, or-false, or-true, false≢true}
-use lib.Dec.{ltb, ltb→lt}
 use Rattle.laws.proofs.Branches.{either}
-use Rattle.laws.proofs.Every.{each}
 use Rattle.page.specs.declared.Page.{Page}
 use Rattle.page.specs.Causes.{settled}
-use Rattle.history.specs.Run.{next, reached, pageOf, statusBit}
+use Rattle.page.specs.Latching.{statusBit, registerOf, bitOf, caused}
+use Rattle.page.proofs.Settled.{UpToDate, settled-bit, settled-caused, register-lt, cause-bit}
+use Rattle.device.specs.Device.{pageOf}
+use Rattle.history.specs.Run.{next, reached}
 use Rattle.history.specs.Clearing.{clears, Falls}
 use Rattle.history.specs.Tripping.{untrips}
-use Rattle.history.specs.Latching.{causeBits, registerOf, bitOf, caused, Latched, Latches}
-use Rattle.history.proofs.Settled.{UpToDate, settled-bit, settled-caused, cause-bit}
+use Rattle.history.specs.Latching.{Latched, Latches}
 use Rattle.history.proofs.PageLeft.{PageLeft, kept, touched, Changed}
 use Rattle.history.proofs.PageAfter.{page-after}
 use Rattle.history.proofs.Runs.{current}
 
-register-lt : (n : ℕ) → n < 6 → registerOf n < 4
-unfolding registerOf causeBits
-register-lt n h = ltb→lt (registerOf n) 4 (each (λ n. ltb (registerOf n) 4) 6 tt n h)
-
 pub latched : Latched
 unfolding Latched
-latched cs i n hi hn e =
-    let p = pageOf (reached cs) i in
-    current cs .page i .latched (registerOf n) (bitOf n) (register-lt n hn) (cause-bit p n hn e)
+latched n cs i m hi hm e =
+    let p = pageOf (reached n cs) i in
+    current n cs .page i hi .latched (registerOf m) (bitOf m) (register-lt m hm) (cause-bit p m hm e)
 
 module _ (p r : Page) (clear : ℕ → ℕ → Bool) (off : Bool) (j k : ℕ) (h : j < 4) where
   -- the bit of a page that was changed and brought up to date
@@ -33,11 +29,11 @@ module _ (p r : Page) (clear : ℕ → ℕ → Bool) (off : Bool) (j k : ℕ) (h
       → statusBit r j k ≡ (statusBit p j k && not (clear j k) || caused r j k)
   touched-bit q e g =
       ap (λ (x : Page). statusBit x j k) e ∙ settled-bit q j k h
-      ∙ ap₂ _||_ (g .bits j k) (sym (settled-caused q j k) ∙ ap (λ (x : Page). caused x j k) (sym e))
+      ∙ ap₂ _||_ (g .bits j k h) (sym (settled-caused q j k) ∙ ap (λ (x : Page). caused x j k) (sym e))
 
   left-bit : PageLeft p r clear off → UpToDate p → statusBit r j k ≡ (statusBit p j k && not (clear j k) || caused r j k)
   left-bit (kept e s t) g =
-      rw (e, s j k, and-true (statusBit p j k))
+      rw (e, s j k h, and-true (statusBit p j k))
       (either (caused p j k) (λ y. g .latched j k h y ∙ rw (y, or-true (statusBit p j k))) (λ n. rw (n, or-false (statusBit p j k))))
   left-bit (touched q e t) g = touched-bit q e t
 
@@ -48,12 +44,12 @@ module _ (p r : Page) (clear : ℕ → ℕ → Bool) (off : Bool) (j k : ℕ) (h
 
 pub latches : Latches
 unfolding Latches
-latches cs c i j k hi hj =
-    let d = reached cs in
-    let g = current cs in
-    left-bit (pageOf d i) (pageOf (next d c) i) (clears d c i) (untrips d c i) j k hj (page-after d i (g .whole) c) (g .page i)
+latches n cs c i j k hi hj =
+    let d = reached n cs in
+    let g = current n cs in
+    left-bit (pageOf d i) (pageOf (next d c) i) (clears d c i) (untrips d c i) j k hj (page-after d i (rw (g .whole) hi) c) (g .page i hi)
 
 pub falls : Falls
 unfolding Falls
-falls d c i j k whole h =
-    left-falls (pageOf d i) (pageOf (next d c) i) (clears d c i) (untrips d c i) j k h (page-after d i whole c)
+falls d c i j k hi hj =
+    left-falls (pageOf d i) (pageOf (next d c) i) (clears d c i) (untrips d c i) j k hj (page-after d i hi c)

@@ -2,53 +2,35 @@
 -- Assumes nothing.
 use Prim.Native.Nat.{ℕ, _<_}
 use mathlib.Core.Path.{_≡_, refl, sym, ap, _∙_}
-use mathlib.Core.Bool.{Bool, false, _&&_, and-false, and-true}
+use mathlib.Core.Bool.{Bool, true, false, cond, _&&_, and-false, and-true}
 use mathlib.Core.List.{List}
-use native.Mathlib.Omega.{arith}
-use lib.Dec.{eqb}
-use lib.ListN.{length, getD, set}
-use lib.Seq.{getD-set-same, getD-set-other}
-use borrow.Author.Tests.{eqb-true, eqb-false, eq-eqb, ne-eqb}
+use lib.Dec.{eqb, ltb}
+use lib.ListN.{length, getD}
+use borrow.Author.Tests.{eq-eqb, ne-eqb, ltb-true, ltb-false}
+use Rattle.laws.specs.Lists.{mapAt}
 use Rattle.laws.proofs.Branches.{either}
+use Rattle.laws.proofs.Places.{map-at, map-kept, map-past}
 use Rattle.command.specs.Meaning.{commandOf}
 use Rattle.page.specs.declared.Page.{Page}
 use Rattle.page.specs.Page.{noPage}
-use Rattle.transaction.specs.Write.{wordOf}
+use Rattle.page.specs.Causes.{settled}
+use Rattle.page.specs.Settings.{setMeasurement}
+use Rattle.unpaged.specs.Unpaged.{actsOn}
+use Rattle.writes.specs.Asked.{wordOf, asked}
+use Rattle.writes.specs.Left.{pageLeft}
 use Rattle.device.specs.declared.Device.{Device}
-use Rattle.device.specs.Device.{clearing}
-use Rattle.device.specs.Step.{Call, write, read, measure, sample, alertResponse, refusedDevice}
-use Rattle.history.specs.Run.{next, answer, Whole, pageOf}
-use Rattle.history.specs.Refusals.{Refused}
-use Rattle.history.specs.Clearing.{acceptedWrite, actsOn, clearingCall, clears}
+use Rattle.device.specs.Device.{pageOf}
+use Rattle.device.specs.Step.{Call, write, read, measure, sample, alertResponse, effect, refusedDevice}
+use Rattle.history.specs.Run.{next, answer}
+use Rattle.history.specs.Clearing.{acceptedWrite, clearsPage, clears}
 use Rattle.history.specs.Pages.{touches, PagesStay}
 use Rattle.history.specs.Tripping.{untripping, untrips}
 use Rattle.history.specs.Accepted.{codeOf}
-use Rattle.history.proofs.Refusals.{refused-call, read-pages, sample-pages, alert-pages}
-use Rattle.history.proofs.Codes.{clearsAll, switchesOff, clearing-code, untripping-code}
+use Rattle.history.proofs.Codes.{cleared-code, untripping-code}
 use Rattle.history.proofs.PageLeft.{PageLeft, kept, same-left, written-page, measured-page}
-use Rattle.history.proofs.Outcomes.{wrote, effectOf, written-pages, was-measured, measuredOf, measured-pages}
+use Rattle.history.proofs.Outcomes.{done-next, refused-next, by-answer, write-next, written-pages, measured-pages}
 
 -- ---- which calls clear and untrip
-
-module _ (d : Device) (i : ℕ) where
-  -- one that is no accepted write
-  no-clears : (c : Call) (j k : ℕ) → ((test : ℕ → ℕ → Bool) → acceptedWrite d c test ≡ false) → clears d c i j k ≡ false
-  unfolding clears clearingCall
-  no-clears c j k h = rw (h (λ code x. clearing code))
-
-  no-untrips : (c : Call) → ((test : ℕ → ℕ → Bool) → acceptedWrite d c test ≡ false) → untrips d c i ≡ false
-  unfolding untrips
-  no-untrips c h = rw (h untripping)
-
-  -- an accepted write s, by page i being the selected one
-  module _ (s : List ℕ) (z : answer d (write s) ≡ 0) where
-    write-clears : (j k : ℕ) → clears d (write s) i j k ≡ (clearing (codeOf s) && actsOn d i)
-    unfolding clears clearingCall acceptedWrite
-    write-clears j k = cc (eq-eqb (answer d (write s)) 0 z)
-
-    write-untrips : untrips d (write s) i ≡ (untripping (codeOf s) (getD s 2 0) && actsOn d i)
-    unfolding untrips acceptedWrite
-    write-untrips = cc (eq-eqb (answer d (write s)) 0 z)
 
 pub refused-tests : (d : Device) (c : Call) → (answer d c ≡ 0 → ⊥) → (test : ℕ → ℕ → Bool) → acceptedWrite d c test ≡ false
 unfolding acceptedWrite
@@ -58,95 +40,84 @@ refused-tests d (measure page quantity word) h test = refl
 refused-tests d (sample n) h test = refl
 refused-tests d (alertResponse n) h test = refl
 
+pub accepted-test : (d : Device) (s : List ℕ) (test : ℕ → ℕ → Bool) → answer d (write s) ≡ 0
+    → acceptedWrite d (write s) test ≡ test (codeOf s) (getD s 2 0)
+unfolding acceptedWrite
+accepted-test d s test z = rw (eq-eqb (answer d (write s)) 0 z)
+
 -- ---- the pages
 
 module _ (d : Device) (c : Call) (i : ℕ) where
   abbrev pub LeftAt : Type 0
   LeftAt = PageLeft (pageOf d i) (pageOf (next d c) i) (clears d c i) (untrips d c i)
 
+  -- a call that is no accepted write, and does not change the page
   untouched : pageOf (next d c) i ≡ pageOf d i → ((test : ℕ → ℕ → Bool) → acceptedWrite d c test ≡ false) → LeftAt
-  untouched e h = kept e (λ j k. no-clears d i c j k h) (no-untrips d i c h)
+  unfolding clears untrips
+  untouched e h = kept e (λ j k l. rw (h (λ code x. clearsPage code x j k))) (rw (h untripping))
 
   refused-left : (answer d c ≡ 0 → ⊥) → LeftAt
-  unfolding refusedDevice Refused
-  refused-left h =
-      untouched (ap (λ (e : Device). pageOf e i) (refused-call d c h)) (refused-tests d c h)
+  unfolding refusedDevice
+  refused-left h = untouched (ap (λ (e : Device). pageOf e i) (refused-next d c h)) (refused-tests d c h)
 
--- page i where page m alone was set
-module _ (d e : Device) (m : ℕ) (r : Page) (i : ℕ) (set-one : e .pages ≡ set (d .pages) m r) where
-  pub set-here : m < length (d .pages) → i ≡ m → pageOf e i ≡ r
-  set-here h same = rw (set-one, same) (getD-set-same (d .pages) m r noPage h)
-
-  pub set-there : (i ≡ m → ⊥) → pageOf e i ≡ pageOf d i
-  set-there other = rw set-one (getD-set-other (d .pages) m i r noPage other)
-
-module _ (d : Device) (i : ℕ) (whole : Whole d) where
+module _ (d : Device) (i : ℕ) (small : i < length (d .pages)) where
   written-left : (s : List ℕ) → answer d (write s) ≡ 0 → LeftAt d (write s) i
+  unfolding clears untrips asked
   written-left s z =
-      let w = wrote d s z in
-      let m = d .unpaged .page in
+      let u = d .unpaged in
       let code = codeOf s in
       let x = getD s 2 0 in
-      let e = effectOf d s in
-      let small = w .valid .page in
-      let pages = written-pages d s z in
-      either (eqb i m)
-      (λ y. let here = eqb-true i m y in
-      same-left (pageOf d m) (pageOf d i) (e .page) (pageOf (next d (write s)) i) (λ j k. clearsAll (commandOf code)) (clears d (write s) i)
-      (switchesOff (commandOf code) x) (untrips d (write s) i) (ap (pageOf d) here)
-      (set-here d (next d (write s)) m (e .page) i pages (omega arith) here)
-      (λ j k. write-clears d i s z j k ∙ rw y (and-true (clearing code)) ∙ sym (clearing-code code))
-      (write-untrips d i s z ∙ rw y (and-true (untripping code x)) ∙ sym (untripping-code code x))
-      (written-page (d .unpaged) (pageOf d m) (commandOf code) x (wordOf x (getD s 3 0))))
-      (λ n. kept (set-there d (next d (write s)) m (e .page) i pages (eqb-false i m n))
-      (λ j k. write-clears d i s z j k ∙ rw n (and-false (clearing code)))
-      (write-untrips d i s z ∙ rw n (and-false (untripping code x))))
+      let y = wordOf x (getD s 3 0) in
+      let w = asked s in
+      let after : pageOf (next d (write s)) i ≡ cond (actsOn u i) (pageLeft w (pageOf d i)) (pageOf d i) =
+      ap (λ (e : Device). pageOf e i) (write-next d s z) ∙ rw (written-pages d w) (map-at noPage (actsOn u) (pageLeft w) (d .pages) i small) in
+      let test : (t : ℕ → ℕ → Bool) → acceptedWrite d (write s) t ≡ t code x = λ t. accepted-test d s t z in
+      either (actsOn u i)
+      (λ y. same-left (pageOf d i) _ _ _ _ _ _ (after ∙ rw y)
+      (λ j k l. rw (y, test (λ code x. clearsPage code x j k)) (and-true (clearsPage code x j k) ∙ sym (cleared-code code x _ j k l)))
+      (rw (y, test untripping) (and-true (untripping code x) ∙ sym (untripping-code code x _)))
+      (written-page (pageOf d i) w))
+      (λ n. kept (after ∙ rw n) (λ j k l. rw n (and-false (acceptedWrite d (write s) (λ code x. clearsPage code x j k))))
+      (rw n (and-false (acceptedWrite d (write s) untripping))))
 
   measured-left : (page quantity word : ℕ) → answer d (measure page quantity word) ≡ 0 → LeftAt d (measure page quantity word) i
-  unfolding acceptedWrite
+  unfolding acceptedWrite effect clears untrips
   measured-left page quantity word z =
       let c = measure page quantity word in
-      let w = was-measured d page quantity word z in
-      let e = measuredOf d page quantity word in
-      let small = w .small in
-      let pages = measured-pages d page quantity word z in
-      either (eqb i page)
-      (λ y. let here = eqb-true i page y in
-      same-left (pageOf d page) (pageOf d i) (e .page) (pageOf (next d c) i) (λ j k. false) (clears d c i) false (untrips d c i)
-      (ap (pageOf d) here) (set-here d (next d c) page (e .page) i pages (omega arith) here)
-      (λ j k. no-clears d i c j k (λ test. refl)) (no-untrips d i c (λ test. refl))
-      (measured-page (d .unpaged) (pageOf d page) quantity word))
-      (λ n. untouched d c i (set-there d (next d c) page (e .page) i pages (eqb-false i page n)) (λ test. refl))
+      let f : Page → Page = λ p. settled (setMeasurement p quantity word) in
+      let after : pageOf (next d c) i ≡ cond (eqb page i) (f (pageOf d i)) (pageOf d i) =
+      ap (λ (e : Device). pageOf e i) (done-next d c z) ∙ rw (measured-pages d page quantity word) (map-at noPage (eqb page) f (d .pages) i small) in
+      either (eqb page i)
+      (λ y. same-left (pageOf d i) _ _ _ _ _ _ (after ∙ rw y) (λ j k l. refl) refl (measured-page (pageOf d i) quantity word))
+      (λ n. kept (after ∙ rw n) (λ j k l. refl) refl)
 
   answered-left : (c : Call) → answer d c ≡ 0 → LeftAt d c i
-  unfolding acceptedWrite
+  unfolding acceptedWrite effect
   answered-left (write s) z = written-left s z
-  answered-left (read header n) z =
-      untouched d (read header n) i (ap (λ (ps : List Page). getD ps i noPage) (read-pages d header n)) (λ test. refl)
+  answered-left (read header n) z = untouched d (read header n) i (ap (λ (e : Device). pageOf e i) (done-next d (read header n) z)) (λ t. refl)
   answered-left (measure page quantity word) z = measured-left page quantity word z
-  answered-left (sample n) z =
-      untouched d (sample n) i (ap (λ (ps : List Page). getD ps i noPage) (sample-pages d n)) (λ test. refl)
+  answered-left (sample n) z = untouched d (sample n) i (ap (λ (e : Device). pageOf e i) (done-next d (sample n) z)) (λ t. refl)
   answered-left (alertResponse n) z =
-      untouched d (alertResponse n) i (ap (λ (ps : List Page). getD ps i noPage) (alert-pages d n)) (λ test. refl)
+      untouched d (alertResponse n) i (ap (λ (e : Device). pageOf e i) (done-next d (alertResponse n) z)) (λ t. refl)
 
   pub page-after : (c : Call) → LeftAt d c i
-  page-after c =
-      either (eqb (answer d c) 0) (λ y. answered-left c (eqb-true (answer d c) 0 y)) (λ n. refused-left d c i (eqb-false (answer d c) 0 n))
+  page-after c = by-answer d c (answered-left c) (refused-left d c i)
 
 -- ---- the pages that a call leaves alone
 
-module _ (d : Device) (i : ℕ) where
-  others-stay : (c : Call) → answer d c ≡ 0 → touches d c i ≡ false → pageOf (next d c) i ≡ pageOf d i
-  unfolding touches
-  others-stay (write s) z h = set-there d (next d (write s)) (d .unpaged .page) (effectOf d s .page) i (written-pages d s z) (eqb-false i (d .unpaged .page) h)
-  others-stay (read header n) z h = ap (λ (ps : List Page). getD ps i noPage) (read-pages d header n)
-  others-stay (measure page quantity word) z h =
-      set-there d (next d (measure page quantity word)) page (measuredOf d page quantity word .page) i (measured-pages d page quantity word z) (eqb-false i page h)
-  others-stay (sample n) z h = ap (λ (ps : List Page). getD ps i noPage) (sample-pages d n)
-  others-stay (alertResponse n) z h = ap (λ (ps : List Page). getD ps i noPage) (alert-pages d n)
+pages-stay-done : (d : Device) (c : Call) (i : ℕ) → touches d c i ≡ false → answer d c ≡ 0 → pageOf (next d c) i ≡ pageOf d i
+unfolding touches effect
+pages-stay-done d (write s) i h z =
+    ap (λ (e : Device). pageOf e i) (write-next d s z)
+    ∙ rw (written-pages d (asked s)) (map-kept noPage (actsOn (d .unpaged)) (pageLeft (asked s)) (d .pages) i h)
+pages-stay-done d (read header n) i h z = ap (λ (e : Device). pageOf e i) (done-next d (read header n) z)
+pages-stay-done d (measure page quantity word) i h z =
+    ap (λ (e : Device). pageOf e i) (done-next d (measure page quantity word) z)
+    ∙ rw (measured-pages d page quantity word) (map-kept noPage (eqb page) (λ p. settled (setMeasurement p quantity word)) (d .pages) i h)
+pages-stay-done d (sample n) i h z = ap (λ (e : Device). pageOf e i) (done-next d (sample n) z)
+pages-stay-done d (alertResponse n) i h z = ap (λ (e : Device). pageOf e i) (done-next d (alertResponse n) z)
 
 pub pages-stay : PagesStay
-unfolding PagesStay Refused refusedDevice
+unfolding PagesStay refusedDevice
 pages-stay d c i h =
-    either (eqb (answer d c) 0) (λ y. others-stay d i c (eqb-true (answer d c) 0 y) h)
-    (λ n. ap (λ (e : Device). pageOf e i) (refused-call d c (eqb-false (answer d c) 0 n)))
+    by-answer d c (pages-stay-done d c i h) (λ r. ap (λ (e : Device). pageOf e i) (refused-next d c r))

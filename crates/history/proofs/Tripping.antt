@@ -5,18 +5,19 @@ use mathlib.Core.Path.{_≡_, sym, ap, _∙_}
 use mathlib.Core.Bool.{Bool, true, false, not, _&&_, _||_, and-true, or-true, or-false, false≢true}
 use Rattle.laws.proofs.Branches.{either}
 use Rattle.page.specs.declared.Page.{Page}
-use Rattle.page.specs.Causes.{settled}
-use Rattle.history.specs.Run.{next, reached, pageOf}
+use Rattle.page.specs.Causes.{settled, shutDown}
+use Rattle.page.proofs.Settled.{UpToDate, cause-shuts, settled-trip}
+use Rattle.device.specs.Device.{pageOf}
+use Rattle.history.specs.Run.{next, reached}
 use Rattle.history.specs.Clearing.{clears}
-use Rattle.history.specs.Tripping.{untrips, shutDown, Tripped, StaysTripped, Trips}
-use Rattle.history.proofs.Settled.{UpToDate, cause-shuts, settled-trip}
+use Rattle.history.specs.Tripping.{untrips, Tripped, StaysTripped, Trips}
 use Rattle.history.proofs.PageLeft.{PageLeft, kept, touched, Changed}
 use Rattle.history.proofs.PageAfter.{page-after}
 use Rattle.history.proofs.Runs.{current}
 
 pub tripped : Tripped
 unfolding Tripped
-tripped cs i n hi hn e r = current cs .page i .tripped (cause-shuts (pageOf (reached cs) i) n hn e r)
+tripped n cs i m hi hm e r = current n cs .page i hi .tripped (cause-shuts (pageOf (reached n cs) i) m hm e r)
 
 module _ (p r : Page) (clear : ℕ → ℕ → Bool) (off : Bool) where
   -- the trip of a page that was changed and brought up to date
@@ -35,12 +36,12 @@ module _ (p r : Page) (clear : ℕ → ℕ → Bool) (off : Bool) where
 
 pub stays-tripped : StaysTripped
 unfolding StaysTripped
-stays-tripped d c i whole =
-    left-stays (pageOf d i) (pageOf (next d c) i) (clears d c i) (untrips d c i) (page-after d i whole c)
+stays-tripped d c i h =
+    left-stays (pageOf d i) (pageOf (next d c) i) (clears d c i) (untrips d c i) (page-after d i h c)
 
 pub trips : Trips
 unfolding Trips
-trips cs c i h =
-    let d = reached cs in
-    let g = current cs in
-    left-trip (pageOf d i) (pageOf (next d c) i) (clears d c i) (untrips d c i) (page-after d i (g .whole) c) (g .page i)
+trips n cs c i h =
+    let d = reached n cs in
+    let g = current n cs in
+    left-trip (pageOf d i) (pageOf (next d c) i) (clears d c i) (untrips d c i) (page-after d i (rw (g .whole) h) c) (g .page i h)

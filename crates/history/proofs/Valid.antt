@@ -1,164 +1,162 @@
--- Answer 15 goes to the states that are not valid, and a run from power-on has none.
+-- Answer 15 goes to states that are not valid, and a run has none.
 -- Assumes nothing.
-use Prim.Native.Nat.{ℕ}
+use Prim.Native.Nat.{ℕ, _<_}
 use mathlib.Core.Path.{_≡_, refl, sym, ap, _∙_}
-use mathlib.Core.Bool.{Bool, true, false, not, and-eq-true-iff, false≢true}
+use mathlib.Core.Bool.{Bool, true, false, not, cond, _&&_, _||_, and-eq-true-iff, false≢true}
 use mathlib.Core.List.{List}
-use lib.Dec.{ltb, eqb}
-use lib.ListN.{getD, set}
-use borrow.Author.Tests.{eqb-true, eqb-false, eq-eqb, lt-ltb}
+use lib.Dec.{eqb, ltb}
+use lib.ListN.{length, getD, length-replicate}
+use borrow.Author.Tests.{eq-eqb, ltb-true}
 use Rattle.laws.specs.Lists.{allOf}
-use Rattle.laws.proofs.Branches.{either, and-yes, cond-same, cond-apply}
-use Rattle.laws.proofs.Lists.{all-at, all-set}
+use Rattle.laws.proofs.Branches.{either, cond-same, cond-apply}
+use Rattle.laws.proofs.Lists.{all-replicate}
+use Rattle.laws.proofs.Places.{all-map-at}
 use Rattle.account.specs.declared.Account.{Account}
 use Rattle.account.specs.Account.{accountValid, sampled}
 use Rattle.account.proofs.Laws.{sampled-valid}
 use Rattle.command.specs.Meaning.{commandOf}
-use Rattle.page.specs.Page.{powerOnPage, noPage}
-use Rattle.page.specs.Settings.{validOperation, validResponse, pageValid}
-use Rattle.transaction.specs.declared.Effect.{Effect}
-use Rattle.transaction.specs.Unpaged.{powerOnUnpaged, validProtect, unpagedValid, refused, withEnergy}
-use Rattle.transaction.specs.Write.{dataAnswer, lengthAnswer, codeAnswer, addressedAnswer, writeAnswer, wordOf}
-use Rattle.transaction.specs.Read.{entryAnswer, headerAnswer, readAnswer}
-use Rattle.transaction.specs.Events.{measureAnswer, alertAnswer, alertAnswered}
+use Rattle.page.specs.declared.Page.{Page}
+use Rattle.page.specs.Page.{powerOnPage}
+use Rattle.page.specs.Causes.{settled}
+use Rattle.page.specs.Settings.{pageValid, setMeasurement}
+use Rattle.page.proofs.Setters.{operation-valid, response-valid, command-valid, limit-valid, measurement-valid, clear-valid, settled-valid, powered-valid}
+use Rattle.unpaged.specs.declared.Unpaged.{Unpaged}
+use Rattle.unpaged.specs.Unpaged.{powerOnUnpaged, validPage, validProtect, unpagedValid, refused, withEnergy}
+use Rattle.unpaged.specs.Events.{measureAnswer, alertAnswer}
+use Rattle.writes.specs.declared.asked.Setting.{Setting}
+use Rattle.writes.specs.declared.asked.Write.{Write}
+use Rattle.writes.specs.Asked.{pageMasks, wordOf, asked, validSetting, validWrite}
+use Rattle.writes.specs.Answers.{dataAnswer, lengthAnswer, codeAnswer, addressedAnswer, writeAnswer}
+use Rattle.writes.specs.Left.{applied, changed, cleared, pageLeft, unpagedLeft}
+use Rattle.reads.specs.Answers.{entryAnswer, headerAnswer, readAnswer}
 use Rattle.device.specs.declared.Device.{Device}
-use Rattle.device.specs.Device.{device, powerOn, deviceValid, clearedAlert}
-use Rattle.device.specs.Step.{Call, write, read, measure, sample, alertResponse, step, refusedDevice, writeDone, transacted, readDone, readAnswered, measureDone, measuredDone, sampleDone, sampledDone, alertDone, alertAnswerOf, alertAnsweredDevice}
-use Rattle.history.specs.Run.{next, answer, reached, pageOf}
-use Rattle.history.specs.Refusals.{Refused}
+use Rattle.device.specs.Device.{supported, powerOn, deviceValid, alertRisen}
+use Rattle.device.specs.Step.{Call, write, read, measure, sample, alertResponse, answerOf, answered, effect, refusedDevice, step, measured}
+use Rattle.device.proofs.States.{Valid, valid-parts, parts-valid}
+use Rattle.history.specs.Run.{next, answer, reached}
 use Rattle.history.specs.Accepted.{codeOf}
 use Rattle.history.specs.Valid.{Fifteen, ReachedValid, NoFifteen}
-use Rattle.history.proofs.Codes.{response-code}
-use Rattle.history.proofs.Refusals.{refused-call}
-use Rattle.history.proofs.Outcomes.{valid-parts, wrote, effectOf, put-pages, put-valid, was-measured, measuredOf, sample-after}
-use Rattle.history.proofs.ValidPage.{EffectValid, written-valid, measured-valid}
-use Rattle.history.proofs.Runs.{kept-in-runs}
+use Rattle.history.proofs.Codes.{smallSetting, smallResponse, response-code}
+use Rattle.history.proofs.Outcomes.{done-next, refused-next, by-answer, write-next, takes-effect-of, written-pages, written-unpaged, measured-pages}
+use Rattle.history.proofs.Runs.{kept-in-runs, same-length}
 
 -- ---- who gets 15: in a valid state no test of any kind of call comes to it
 
 abbrev is15 : ℕ → Bool
 is15 a = eqb a 15
 
-write-not-15 : (protect : ℕ) (s : List ℕ) → is15 (writeAnswer protect s) ≡ false
-unfolding writeAnswer addressedAnswer codeAnswer lengthAnswer dataAnswer
-write-not-15 protect s = simp (cond-apply is15, cond-same)
-
-read-not-15 : (header : List ℕ) (n : ℕ) → is15 (readAnswer header n) ≡ false
-unfolding readAnswer headerAnswer entryAnswer
-read-not-15 header n = simp (cond-apply is15, cond-same)
-
-measure-not-15 : (page quantity : ℕ) → is15 (measureAnswer page quantity) ≡ false
-unfolding measureAnswer
-measure-not-15 page quantity = simp (cond-apply is15, cond-same)
-
-sample-not-15 : (a : Account) (n : ℕ) → is15 (sampled a n .answer) ≡ false
-unfolding sampled
-sample-not-15 a n = either (ltb n 32768) (λ e. rw e) (λ e. rw e)
-
-alert-not-15 : (up : Bool) (n : ℕ) → is15 (alertAnswer up n) ≡ false
-unfolding alertAnswer
-alert-not-15 up n = simp (cond-apply is15, cond-same)
+not-15 : (d : Device) (c : Call) → is15 (answerOf d c) ≡ false
+unfolding answerOf writeAnswer addressedAnswer codeAnswer lengthAnswer dataAnswer readAnswer headerAnswer entryAnswer measureAnswer alertAnswer sampled
+not-15 d (write s) = simp (cond-apply is15, cond-same)
+not-15 d (read header n) = simp (cond-apply is15, cond-same)
+not-15 d (measure page quantity word) = simp (cond-apply is15, cond-same)
+not-15 d (sample n) = either (ltb n 32768) (λ e. rw (e, answerOf)) (λ e. rw (e, answerOf))
+not-15 d (alertResponse n) = simp (cond-apply is15, cond-same)
 
 pub fifteen : Fifteen
-unfolding Fifteen step writeDone transacted readDone readAnswered measureDone measuredDone sampleDone sampledDone alertDone alertAnswerOf
-fifteen d (write s) =
-    either (deviceValid d) (λ e. rw (e, answer) (write-not-15 (d .unpaged .protect) s)) (λ e. rw (e, answer))
-fifteen d (read header n) = either (deviceValid d) (λ e. rw (e, answer) (read-not-15 header n)) (λ e. rw (e, answer))
-fifteen d (measure page quantity word) =
-    either (deviceValid d) (λ e. rw (e, answer) (measure-not-15 page quantity)) (λ e. rw (e, answer))
-fifteen d (sample n) = either (deviceValid d) (λ e. rw (e, answer) (sample-not-15 (d .unpaged .energy) n)) (λ e. rw (e, answer))
-fifteen d (alertResponse n) =
-    either (deviceValid d) (λ e. rw (e, answer) (alert-not-15 (d .unpaged .alert) n)) (λ e. rw (e, answer))
+unfolding Fifteen step answered
+fifteen d c = either (deviceValid d) (λ e. rw (e, answer) (not-15 d c)) (λ e. rw (e, answer))
 
 -- ---- a call leaves a valid state valid
 
-device-valid : (d : Device) → unpagedValid (d .unpaged) ≡ true → allOf pageValid (d .pages) ≡ true → deviceValid d ≡ true
+module _ (p : Page) (v : pageValid p ≡ true) where
+  setting-valid : (s : Setting) → validSetting s ≡ true → smallSetting s ≡ true → pageValid (applied s p) ≡ true
+  unfolding applied validSetting
+  setting-valid (Setting.Operation x) e small = operation-valid p x v e
+  setting-valid (Setting.VoutCommand w) e small = command-valid p w ∙ v
+  setting-valid (Setting.Limit k w) e small = limit-valid p k w ∙ v
+  setting-valid (Setting.Response k x) e small = response-valid p k x (ltb-true k 6 small) v e
+
+  page-valid : (n : ℕ) (w : Write) → validWrite n w ≡ true → smallResponse w ≡ true → pageValid (pageLeft w p) ≡ true
+  unfolding pageLeft changed cleared validWrite
+  page-valid n Write.Nothing e small = v
+  page-valid n (Write.SelectPage x) e small = v
+  page-valid n (Write.Protect x) e small = v
+  page-valid n (Write.Change s) e small = settled-valid (applied s p) ∙ setting-valid s e small
+  page-valid n (Write.Clear m) e small = settled-valid _ ∙ clear-valid p (pageMasks m) ∙ v
+
+module _ (d : Device) (v : Valid d) where
+  abbrev n : ℕ
+  n = length (d .pages)
+
+  unpaged-valid : (w : Write) → validWrite n w ≡ true → unpagedValid n (unpagedLeft w (d .unpaged)) ≡ true
+  unfolding unpagedLeft validWrite unpagedValid
+  unpaged-valid Write.Nothing e = rw (v .page, v .protect, v .energy)
+  unpaged-valid (Write.SelectPage x) e = rw (e, v .protect, v .energy)
+  unpaged-valid (Write.Protect x) e = rw (v .page, e, v .energy)
+  unpaged-valid (Write.Change s) e = rw (v .page, v .protect, v .energy)
+  unpaged-valid (Write.Clear m) e = rw (v .page, v .protect, v .energy)
+
+-- a state with the same number of pages, and both parts valid
+made-valid : (d e : Device) → Valid d → length (e .pages) ≡ length (d .pages) → unpagedValid (length (d .pages)) (e .unpaged) ≡ true
+    → allOf pageValid (e .pages) ≡ true → deviceValid e ≡ true
 unfolding deviceValid
-device-valid d a b = and-yes (unpagedValid (d .unpaged)) (allOf pageValid (d .pages)) a b
+made-valid d e v l u p = rw (l, v .number, u, p)
 
-none-valid : pageValid noPage ≡ true
-unfolding pageValid validOperation validResponse
-none-valid = refl
+module _ (d : Device) (valid : deviceValid d ≡ true) where
+  abbrev v : Valid d
+  v = valid-parts d valid
 
-module _ (d : Device) (v : deviceValid d ≡ true) where
-  unpaged-valid : unpagedValid (d .unpaged) ≡ true
-  unfolding deviceValid
-  unpaged-valid = and-eq-true-iff (unpagedValid (d .unpaged)) (allOf pageValid (d .pages)) .0 v .0
+  write-valid : (s : List ℕ) → answer d (write s) ≡ 0 → deviceValid (next d (write s)) ≡ true
+  unfolding asked
+  write-valid s z =
+      let w = asked s in
+      let a = takes-effect-of d s valid z in
+      let x = getD s 2 0 in
+      let small = response-code (codeOf s) x (wordOf x (getD s 3 0)) in
+      made-valid d (next d (write s)) v (same-length d (write s))
+      (ap (λ (e : Device). unpagedValid (length (d .pages)) (e .unpaged)) (write-next d s z)
+      ∙ written-unpaged d w (length (d .pages)) ∙ unpaged-valid d v w (a .valid))
+      (ap (λ (e : Device). allOf pageValid (e .pages)) (write-next d s z)
+      ∙ rw (written-pages d w)
+      (all-map-at pageValid _ (pageLeft w) (d .pages) (λ p e. page-valid p e (length (d .pages)) w (a .valid) small) (v .pages)))
 
-  pages-valid : allOf pageValid (d .pages) ≡ true
-  pages-valid = valid-parts d v .pages
+  measure-valid : (page quantity word : ℕ) → answer d (measure page quantity word) ≡ 0 → deviceValid (next d (measure page quantity word)) ≡ true
+  unfolding effect measured alertRisen unpagedValid
+  measure-valid page quantity word z =
+      let c = measure page quantity word in
+      made-valid d (next d c) v (same-length d c)
+      (ap (λ (e : Device). unpagedValid (length (d .pages)) (e .unpaged)) (done-next d c z) ∙ rw (v .page, v .protect, v .energy))
+      (ap (λ (e : Device). allOf pageValid (e .pages)) (done-next d c z)
+      ∙ all-map-at pageValid (eqb page) (λ p. settled (setMeasurement p quantity word)) (d .pages)
+      (λ p e. settled-valid (setMeasurement p quantity word) ∙ measurement-valid p quantity word ∙ e) (v .pages))
 
-  page-valid : (i : ℕ) → pageValid (pageOf d i) ≡ true
-  page-valid i = all-at noPage pageValid (d .pages) i pages-valid none-valid
+  effect-valid : (c : Call) → answer d c ≡ 0 → deviceValid (next d c) ≡ true
+  unfolding effect deviceValid unpagedValid
+  effect-valid (write s) z = write-valid s z
+  effect-valid (read header m) z = rw (done-next d (read header m) z) valid
+  effect-valid (measure page quantity word) z = measure-valid page quantity word z
+  effect-valid (sample m) z =
+      rw (done-next d (sample m) z)
+      (rw (v .number, v .page, v .protect, sampled-valid (d .unpaged .energy) m (v .energy), v .pages))
+  effect-valid (alertResponse m) z = rw (done-next d (alertResponse m) z) valid
 
   refused-valid : (a : ℕ) → deviceValid (refusedDevice d a) ≡ true
   unfolding refusedDevice refused deviceValid unpagedValid
-  refused-valid a = v
-
-  put-back-valid : (e : Effect) (i : ℕ) → EffectValid e → allOf pageValid (set (d .pages) i (e .page)) ≡ true
-  put-back-valid e i h = all-set pageValid (d .pages) i (e .page) pages-valid (h .page)
-
-  write-valid : (s : List ℕ) → answer d (write s) ≡ 0 → deviceValid (next d (write s)) ≡ true
-  write-valid s z =
-      let w = wrote d s z in
-      let m = d .unpaged .page in
-      let x = getD s 2 0 in
-      let code = codeOf s in
-      let e = effectOf d s in
-      let ps = set (d .pages) m (e .page) in
-      let h = written-valid (d .unpaged) (pageOf d m) unpaged-valid (page-valid m) (commandOf code) x (wordOf x (getD s 3 0)) (w .good .valid) (response-code code) in
-      rw (w .after)
-      (device-valid (clearedAlert (e .unpaged) ps code) (put-valid (e .unpaged) ps code ∙ h .unpaged)
-      (ap (allOf pageValid) (put-pages (e .unpaged) ps code) ∙ put-back-valid e m h))
-
-  measure-valid : (page quantity word : ℕ) → answer d (measure page quantity word) ≡ 0 → deviceValid (next d (measure page quantity word)) ≡ true
-  measure-valid page quantity word z =
-      let e = measuredOf d page quantity word in
-      let h = measured-valid (d .unpaged) (pageOf d page) unpaged-valid (page-valid page) quantity word in
-      rw (was-measured d page quantity word z .after)
-      (device-valid (device (e .unpaged) (set (d .pages) page (e .page))) (h .unpaged) (put-back-valid e page h))
-
-  energy-valid : (a : Account) → accountValid a ≡ true → unpagedValid (withEnergy (d .unpaged) a) ≡ true
-  unfolding unpagedValid
-  energy-valid a e =
-      let parts = valid-parts d v in
-      rw (lt-ltb (d .unpaged .page) 8 (parts .page), parts .protect, e)
-
-  sample-valid : (n : ℕ) → deviceValid (next d (sample n)) ≡ true
-  sample-valid n =
-      let a = sampled (d .unpaged .energy) n .account in
-      rw (sample-after d n v)
-      (device-valid (device (withEnergy (d .unpaged) a) (d .pages))
-      (energy-valid a (sampled-valid (d .unpaged .energy) n (valid-parts d v .energy))) pages-valid)
-
-  alert-valid : (n : ℕ) → deviceValid (next d (alertResponse n)) ≡ true
-  unfolding step alertDone alertAnsweredDevice alertAnswered deviceValid unpagedValid
-  alert-valid n = v
-
-  answered-valid : (c : Call) → answer d c ≡ 0 → deviceValid (next d c) ≡ true
-  unfolding step readDone
-  answered-valid (write s) z = write-valid s z
-  answered-valid (read header n) z = refused-valid (answer d (read header n))
-  answered-valid (measure page quantity word) z = measure-valid page quantity word z
-  answered-valid (sample n) z = sample-valid n
-  answered-valid (alertResponse n) z = alert-valid n
+  refused-valid a = valid
 
 pub valid-after : (d : Device) (c : Call) → deviceValid d ≡ true → deviceValid (next d c) ≡ true
-unfolding Refused
-valid-after d c v =
-    either (eqb (answer d c) 0) (λ y. answered-valid d v c (eqb-true (answer d c) 0 y))
-    (λ n. rw (refused-call d c (eqb-false (answer d c) 0 n)) (refused-valid d v (answer d c)))
+valid-after d c v = by-answer d c (effect-valid d v c) (λ r. rw (refused-next d c r) (refused-valid d v (answer d c)))
 
-powered-valid : deviceValid powerOn ≡ true
-unfolding powerOn deviceValid unpagedValid powerOnUnpaged validProtect accountValid pageValid powerOnPage validOperation validResponse
-powered-valid = refl
+powered : (n : ℕ) → supported n ≡ true → deviceValid (powerOn n) ≡ true
+unfolding powerOn powerOnUnpaged validProtect accountValid validPage supported
+powered n h =
+    let long = length-replicate n powerOnPage in
+    parts-valid (powerOn n)
+    (record {
+      number = rw long h;
+      page = rw long (and-eq-true-iff (ltb 0 n) (ltb n 97) .0 h .0);
+      protect = refl;
+      energy = refl;
+      pages = all-replicate pageValid n powerOnPage powered-valid;
+    })
 
 pub reached-valid : ReachedValid
 unfolding ReachedValid
-reached-valid cs = kept-in-runs (λ (d : Device). deviceValid d ≡ true) valid-after powerOn cs powered-valid
+reached-valid n cs h = kept-in-runs (λ (d : Device). deviceValid d ≡ true) valid-after (powerOn n) cs (powered n h)
 
 pub no-fifteen : NoFifteen
 unfolding NoFifteen Fifteen ReachedValid
-no-fifteen cs c e =
-    let d = reached cs in
-    false≢true (sym (fifteen d c ∙ ap not (reached-valid cs)) ∙ eq-eqb (answer d c) 15 e)
+no-fifteen n cs c h e =
+    let d = reached n cs in
+    false≢true (sym (fifteen d c ∙ ap not (reached-valid n cs h)) ∙ eq-eqb (answer d c) 15 e)

@@ -1,14 +1,30 @@
--- The listed clearings of status bits, and that a bit falls by nothing else.
+-- The clearings of status bits, and that a bit falls by nothing else (data sheet 6.5, 6.9).
 -- Assumes nothing.
 use Prim.Native.Nat.{ℕ, _<_}
 use mathlib.Core.Path.{_≡_}
 use mathlib.Core.Bool.{Bool, true, false, _&&_}
-use lib.ListN.{getD}
+use lib.ListN.{length, getD}
 use lib.Dec.{eqb}
+use Rattle.laws.specs.Bits.{bit}
+use Rattle.page.specs.Latching.{statusBit}
+use Rattle.unpaged.specs.Unpaged.{actsOn}
 use Rattle.device.specs.declared.Device.{Device}
-use Rattle.device.specs.Device.{clearing}
+use Rattle.device.specs.Device.{pageOf}
 use Rattle.device.specs.Step.{Call, write, read, measure, sample, alertResponse}
-use Rattle.history.specs.Run.{next, answer, Whole, pageOf, statusBit, cmlBit}
+use Rattle.history.specs.Run.{next, answer, cmlBit}
+
+-- The one clearing, by code and first data byte x: CLEAR_FAULTS. In three separate meanings: the bits k of register j that fall on each page
+-- acted on,
+unfoldable pub clearsPage : ℕ → ℕ → ℕ → ℕ → Bool
+clearsPage code x j k = eqb code 0x03 && bit 0xFF k
+
+-- the bits k of STATUS_CML that fall,
+unfoldable pub clearsStatusCml : ℕ → ℕ → ℕ → Bool
+clearsStatusCml code x k = eqb code 0x03 && bit 0xFF k
+
+-- and whether the alert is worked out anew
+unfoldable pub reworksAlert : ℕ → Bool
+reworksAlert code = eqb code 0x03
 
 -- c is an accepted write whose code and first data byte pass a test
 unfoldable pub acceptedWrite : Device → Call → (ℕ → ℕ → Bool) → Bool
@@ -18,27 +34,23 @@ acceptedWrite d (measure page quantity word) test = false
 acceptedWrite d (sample n) test = false
 acceptedWrite d (alertResponse n) test = false
 
--- page i is the one that a paged write acts on
-abbrev pub actsOn : Device → ℕ → Bool
-actsOn d i = eqb i (d .unpaged .page)
-
--- an accepted write of a listed clearing
-unfoldable pub clearingCall : Device → Call → Bool
-clearingCall d c = acceptedWrite d c (λ code x. clearing code)
-
--- c clears bit k of register j on page i: "an accepted CLEAR_FAULTS, which clears the selected page's four registers and CML"
+-- c clears bit k of register j on page i,
 unfoldable pub clears : Device → Call → ℕ → ℕ → ℕ → Bool
-clears d c i j k = clearingCall d c && actsOn d i
+clears d c i j k = acceptedWrite d c (λ code x. clearsPage code x j k) && actsOn (d .unpaged) i
 
--- c clears bit k of CML
+-- bit k of STATUS_CML,
 unfoldable pub clearsCml : Device → Call → ℕ → Bool
-clearsCml d c k = clearingCall d c
+clearsCml d c k = acceptedWrite d c (λ code x. clearsStatusCml code x k)
 
--- "It falls only by an accepted CLEAR_FAULTS": a bit that is 1 before a call and 0 after it was cleared by that call
+-- and is a clearing, whatever bits it clears
+unfoldable pub clearingCall : Device → Call → Bool
+clearingCall d c = acceptedWrite d c (λ code x. reworksAlert code)
+
+-- a bit that is 1 before a call and 0 after it was cleared by that call
 unfoldable pub Falls : Type 0
 Falls =
-    (d : Device) (c : Call) (i j k : ℕ) → Whole d → j < 4 → statusBit (pageOf d i) j k ≡ true
-    → statusBit (pageOf (next d c) i) j k ≡ false → clears d c i j k ≡ true
+    (d : Device) (c : Call) (i j k : ℕ) → i < length (d .pages) → j < 4 → statusBit (pageOf d i) j k ≡ true → statusBit (pageOf (next d c) i) j k ≡ false
+    → clears d c i j k ≡ true
 
 unfoldable pub FallsCml : Type 0
 FallsCml = (d : Device) (c : Call) (k : ℕ) → cmlBit d k ≡ true → cmlBit (next d c) k ≡ false → clearsCml d c k ≡ true

@@ -1,5 +1,6 @@
--- Demand 3: one claim about every list of calls from one power-on, with every choice of copies of its energy replies. Copies, and the log of
--- samples taken and copies got, are those of crate energy (Reply.antt, Events.antt); what holds at each copy too (Claim.antt, Tally.antt).
+-- The energy guarantee (data sheet 15.7): one claim about every list of calls from power-on, with every choice of copies of its energy
+-- replies. Copies, and the log of samples taken and copies got, are those of crate energy (Reply.antt, Events.antt); what holds at each copy
+-- too (Claim.antt, Tally.antt).
 -- Assumes nothing.
 use Prim.Native.Nat.{ℕ}
 use mathlib.Core.Bool.{Bool, cond, _&&_}
@@ -14,20 +15,19 @@ use Rattle.device.specs.Step.{Call, write, read, measure, sample, alertResponse
 use Rattle.history.specs.Run.{next}
 use Rattle.history.specs.Accepted.{codeOf}
 
--- "write and read transactions, measurements, power samples, alert responses, refused ones included": a call of any kind, with any numbers;
--- "whichever of them are lost, repeated at once or changed": the copies of its reply that the totalizer gets, in order. They count only
--- where the call leaves an energy reply.
+-- A call of any kind with any numbers, refused or not, and the copies of its reply that the totalizer gets; they count only where the call
+-- leaves an energy reply (data sheet 15.6).
 pub record Turn : Type 0 where
   pub call : Call
   pub copies : List Copy
 
--- a call's part in the demand: a power sample of a number, with its answer; an energy reply, by its bytes; or none
+-- a call's part in the guarantee: a power sample with its answer, an energy reply by its bytes, or none
 pub data Part : Type 0 where
   powerSample : ℕ → ℕ → Part
   energyReply : List ℕ → Part
   none : Part
 
--- "An energy reply is the eight bytes left by a read of 86h with n 8 and answer 0"; with answer 0 the header is C0h, 86h, C1h
+-- a read of 86h of eight bytes with answer 0, so that the header is right (data sheet 15.6)
 abbrev pub isEnergyReply : List ℕ → ℕ → Result → Bool
 isEnergyReply header n r = eqb (codeOf header) 0x86 && eqb n 8 && eqb (r .done .answer) 0
 
@@ -42,19 +42,18 @@ partOf (alertResponse n) r = none
 abbrev pub part : Device → Turn → Part
 part d t = partOf (t .call) (step d (t .call))
 
--- "its eight byte energy replies with answer 0 are presented in order to a .. totalizer": the log l after a call. "Samples taken are power
--- samples with answer 0" is in logSample.
+-- the log l after a call: a sample that was taken is noted, copies of a reply go to the totalizer
 unfoldable pub logPart : Log → List Copy → Part → Log
 logPart l copies (powerSample n answer) = logSample l n answer
 logPart l copies (energyReply reply) = logCopies reply l copies
 logPart l copies none = l
 
--- The log after a list of calls: "Each call gets the state the one before returned .. The totalizer's state goes on likewise".
+-- the log after a list of calls, each on the state that the one before it left
 unfoldable pub logAfter : Device → Log → List Turn → Log
 logAfter d l [] = l
 logAfter d l (t ∷ ts) = logAfter (next d (t .call)) (logPart l (t .copies) (part d t)) ts
 
--- the copies of an energy reply are intact or "changed within one run of eight adjacent bits"
+-- the copies of an energy reply are copies of it (data sheet 15.6)
 unfoldable pub CopiesOf : List Copy → Part → Type 0
 CopiesOf copies (powerSample n answer) = Unit
 CopiesOf copies (energyReply reply) = AreCopies reply copies
@@ -64,7 +63,7 @@ unfoldable pub TrueCopies : Device → List Turn → Type 0
 TrueCopies d [] = Unit
 TrueCopies d (t ∷ ts) = CopiesOf (t .copies) (part d t) × TrueCopies (next d (t .call)) ts
 
--- "For every list of calls from one power-on", with "a fresh totalizer". AtEachCopy is the rest of the demand, from "Each changed copy gets
--- 21" on.
+-- For every number of pages, every list of calls from one power-on and a fresh totalizer. AtEachCopy (crate energy) is what holds at each copy
+-- that the totalizer got: a changed one is refused, an intact one accepted, and the totals are the tally.
 unfoldable pub Demand3 : Type 0
-Demand3 = (ts : List Turn) → TrueCopies powerOn ts → AtEachCopy (logAfter powerOn freshLog ts .history)
+Demand3 = (n : ℕ) (ts : List Turn) → TrueCopies (powerOn n) ts → AtEachCopy (logAfter (powerOn n) freshLog ts .history)

@@ -1,4 +1,4 @@
--- Six calls of the device, and copies of a reply, one of them changed, that the claim of demand 3 is about; and their history.
+-- Six calls of the device and copies of their replies, one of them damaged, that the guarantee is about (data sheet 15.7); and their history.
 -- Assumes nothing.
 use Prim.Native.Nat.{ℕ, zero, suc, _<_, _≤_}
 use mathlib.Core.Path.{_≡_, refl, ap}
@@ -18,11 +18,14 @@ use Rattle.pec.specs.Pec.{pec, pecFrom, pecByte, pecBit}
 use Rattle.command.specs.Table.{table, entryOf, lookup}
 use Rattle.command.specs.Meaning.{commandOf, readingOf}
 use Rattle.page.specs.Page.{powerOnPage}
-use Rattle.page.specs.Settings.{pageValid, validOperation, validResponse}
-use Rattle.transaction.specs.Unpaged.{powerOnUnpaged, validProtect, unpagedValid, refused}
-use Rattle.transaction.specs.Read.{entryAnswer, headerAnswer, readAnswer, answersData, readData, checked, readStream}
-use Rattle.device.specs.Device.{powerOn, deviceValid}
-use Rattle.device.specs.Step.{read, sample, step, refusedDevice, readAnswered, sent, readReply, readDone, sampledDone, sampleDone}
+use Rattle.cause.specs.Causes.{causes}
+use Rattle.page.specs.Settings.{pageValid, validOperation}
+use Rattle.unpaged.specs.Unpaged.{powerOnUnpaged, validPage, validProtect, unpagedValid, refused}
+use Rattle.reads.specs.Answers.{entryAnswer, headerAnswer, readAnswer, answersData}
+use Rattle.reads.specs.Data.{readData, checked, readStream}
+use Rattle.device.specs.Device.{powerOn, supported, deviceValid}
+use Rattle.device.specs.Step.{read, sample, answerOf, effect, left, sent, step}
+use Rattle.device.specs.Step as calls
 use Rattle.history.specs.Energy.{Turn, partOf, logPart, logAfter, CopiesOf, TrueCopies}
 
 -- the reply after a sample of 5, and a copy of it in which the first bit differs
@@ -65,8 +68,8 @@ turns =
     ∷ []
 
 pub copies-and-history :
-    TrueCopies powerOn turns
-    × (logAfter powerOn freshLog turns .history
+    TrueCopies (powerOn 8) turns
+    × (logAfter (powerOn 8) freshLog turns .history
     ≡ got intact (answered 0 (totalizer true false (account 21 0 3) 16 2))
     ∷ got intact (answered 0 (totalizer true false (account 21 0 3) 16 2))
     ∷ took 9
@@ -78,7 +81,7 @@ pub copies-and-history :
 unfolding
     turns TrueCopies CopiesOf AreCopies logAfter partOf logPart logCopies accountValid added sampled einBytes accountOf freshTotalizer
     energyReading replyCheck replyAnswer nextEnergy nextSamples booked totalize totalizing.added pec pecFrom pecByte pecBit table
-    entryOf lookup commandOf readingOf powerOnPage pageValid validOperation validResponse powerOnUnpaged validProtect unpagedValid
-    refused entryAnswer headerAnswer readAnswer answersData readData checked readStream powerOn deviceValid step
-    refusedDevice readAnswered sent readReply readDone sampledDone sampleDone
+    entryOf lookup commandOf readingOf powerOnPage pageValid validOperation causes powerOnUnpaged validPage validProtect unpagedValid
+    refused entryAnswer headerAnswer readAnswer answersData readData checked readStream powerOn supported deviceValid step
+    answerOf calls.answered effect left sent
 copies-and-history = ((tt, (((is-changed, bytes), (tt, tt)), (tt, (tt, (tt, ((tt, (tt, tt)), tt)))))), refl)

@@ -7,6 +7,8 @@ pub mod Latching
 pub mod Tripping
 pub mod Alert
 pub mod Accepted
-pub mod StatusWords
 pub mod Energy
 pub mod EnergyExample
+pub mod Effects
+pub mod ReadBack
+pub mod Claims

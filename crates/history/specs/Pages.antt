@@ -1,19 +1,20 @@
--- Which pages a call may change.
+-- Which pages a call may change (data sheet 15.2).
 -- Assumes nothing.
 use Prim.Native.Nat.{ℕ}
 use mathlib.Core.Path.{_≡_}
 use mathlib.Core.Bool.{Bool, false}
 use lib.Dec.{eqb}
+use Rattle.unpaged.specs.Unpaged.{actsOn}
 use Rattle.device.specs.declared.Device.{Device}
+use Rattle.device.specs.Device.{pageOf}
 use Rattle.device.specs.Step.{Call, write, read, measure, sample, alertResponse}
-use Rattle.history.specs.Run.{next, pageOf}
-use Rattle.history.specs.Clearing.{actsOn}
+use Rattle.history.specs.Run.{next}
 
--- a write the page that it acts on, a measurement the one that it names, no other call any
+-- a write the pages that it acts on, a measurement the one that it names, no other call any
 unfoldable pub touches : Device → Call → ℕ → Bool
-touches d (write s) i = actsOn d i
+touches d (write s) i = actsOn (d .unpaged) i
 touches d (read header n) i = false
-touches d (measure page quantity word) i = eqb i page
+touches d (measure page quantity word) i = eqb page i
 touches d (sample n) i = false
 touches d (alertResponse n) i = false
 

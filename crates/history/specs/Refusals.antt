@@ -1,4 +1,4 @@
--- What a refusal leaves (document 01, 'Answer numbers').
+-- What a refusal leaves (data sheet 11.6).
 -- Assumes nothing.
 use Prim.Native.Nat.{ℕ}
 use mathlib.Core.Path.{_≡_}
@@ -10,11 +10,11 @@ use Rattle.device.specs.declared.Device.{Device}
 use Rattle.device.specs.Step.{Call, refusedDevice}
 use Rattle.history.specs.Run.{next, answer}
 
--- "Refusals 3 and 5 to 11 change only CML and the alert": refusedDevice changes nothing else
+-- at most STATUS_CML and the alert change: refusedDevice changes nothing else
 unfoldable pub Refused : Type 0
 Refused = (d : Device) (c : Call) → (answer d c ≡ 0 → ⊥) → next d c ≡ refusedDevice d (answer d c)
 
--- the answers whose column 'Leaves' says "no change"
+-- the answers that change nothing at all
 abbrev pub silentAnswers : List ℕ
 silentAnswers = 1 ∷ 2 ∷ 12 ∷ 13 ∷ 14 ∷ 15 ∷ []
 

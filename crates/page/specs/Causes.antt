@@ -1,78 +1,69 @@
--- The six causes of document 01, in the order of their limits: 0 VOUT_OV, 1 IOUT_OC, 2 OT, 3 UT, 4 VIN_OV, 5 VIN_UV.
+-- Which causes are present on a page, and what they leave: all worked out from the table of causes.
 -- Assumes nothing.
-use Prim.Native.Nat.{ℕ}
-use mathlib.Core.Bool.{Bool, true, false, cond, not, _&&_, _||_}
-use mathlib.Core.List.{List, [], _∷_}
+use Prim.Native.Nat.{ℕ, _^_}
+use mathlib.Core.Bool.{Bool, false, cond, _&&_, _||_}
+use mathlib.Core.List.{List, [], _∷_, map}
 use lib.ListN.{getD}
-use lib.Dec.{ltb, eqb}
+use lib.Dec.{eqb}
 use lib.Bits.{bitOr}
+use Rattle.laws.specs.Lists.{anyOf}
+use Rattle.linear11.specs.declared.Order.{Order}
 use Rattle.linear11.specs.Linear11.{linearOrder, wordOrder, isAbove, isBelow}
+use Rattle.cause.specs.Causes.{Side, above, below, VOUT, Limit, causes, limits, staysOffAt, lastsAt, register}
 use Rattle.page.specs.declared.Page.{Page}
 use Rattle.page.specs.Page.{withStatus, withTripped}
 
--- a Linear11 word against a limit, strictly
-unfoldable pub above : ℕ → ℕ → Bool
-above word limit = isAbove (linearOrder word limit)
+-- how a word stands to a limit of that quantity (data sheet 5.2, 5.5): VOUT's as plain numbers, the others by their values
+unfoldable pub orderBy : ℕ → ℕ → ℕ → Order
+orderBy quantity word limit = cond (eqb quantity VOUT) (wordOrder word limit) (linearOrder word limit)
 
-unfoldable pub below : ℕ → ℕ → Bool
-below word limit = isBelow (linearOrder word limit)
+-- the order is that of the side; equal is on neither
+unfoldable pub onSide : Side → Order → Bool
+onSide above o = isAbove o
+onSide below o = isBelow o
 
--- "VOUT words and the VOUT limit are unsigned and compare as numbers."
-unfoldable pub aboveUnsigned : ℕ → ℕ → Bool
-aboveUnsigned word limit = isAbove (wordOrder word limit)
+-- the latest word of the limit's quantity, if there is one, is past the limit on its side (data sheet 6.2)
+unfoldable pub crossed : Page → Limit → Bool
+crossed p l =
+    getD (p .measured) (l .quantity) false
+    && onSide (l .side) (orderBy (l .quantity) (getD (p .words) (l .quantity) 0) (getD (p .limits) (l .number) 0))
 
--- "A cause is present when the latest measurement of its quantity on that page is strictly above (OV, OC, OT) or strictly below
--- (UV, UT) the present limit; before any measurement none is."
+-- the causes in the order of their numbers, each present or not
 unfoldable pub presentCauses : Page → List Bool
-presentCauses p =
-    (getD (p .measured) 0 false && aboveUnsigned (getD (p .words) 0 0) (getD (p .limits) 0 0))
-    ∷ (getD (p .measured) 1 false && above (getD (p .words) 1 0) (getD (p .limits) 1 0))
-    ∷ (getD (p .measured) 3 false && above (getD (p .words) 3 0) (getD (p .limits) 2 0))
-    ∷ (getD (p .measured) 3 false && below (getD (p .words) 3 0) (getD (p .limits) 3 0))
-    ∷ (getD (p .measured) 2 false && above (getD (p .words) 2 0) (getD (p .limits) 4 0))
-    ∷ (getD (p .measured) 2 false && below (getD (p .words) 2 0) (getD (p .limits) 5 0))
-    ∷ []
+presentCauses p = map (crossed p) limits
 
--- cause k is present
+-- cause n is present
 abbrev pub present : Page → ℕ → Bool
-present p k = getD (presentCauses p) k false
+present p n = getD (presentCauses p) n false
 
 -- a bit of a register, by its weight, or none
 unfoldable pub weigh : Bool → ℕ → ℕ
 weigh set mask = cond set mask 0
 
--- "Cause bits: VOUT_OV 7Ah bit 7; IOUT_OC 7Bh bit 7; VIN_OV 7Ch bit 7; VIN_UV 7Ch bit 4; OT 7Dh bit 7; UT 7Dh bit 4."
--- The registers 7Ah to 7Dh with the bits of the causes c set; history, Latched, says it cause by cause.
-unfoldable pub raised : List ℕ → List Bool → List ℕ
-raised s c =
-    bitOr (getD s 0 0) (weigh (getD c 0 false) 128)
-    ∷ bitOr (getD s 1 0) (weigh (getD c 1 false) 128)
-    ∷ bitOr (bitOr (getD s 2 0) (weigh (getD c 4 false) 128)) (weigh (getD c 5 false) 16)
-    ∷ bitOr (bitOr (getD s 3 0) (weigh (getD c 2 false) 128)) (weigh (getD c 3 false) 16)
-    ∷ []
+-- the register j with the bits of those limits of ls that are crossed (c, by number) and are shown in it
+unfoldable pub marked : List Bool → ℕ → List Limit → ℕ → ℕ
+marked c j [] x = x
+marked c j (l ∷ ls) x =
+    marked c j ls (cond (eqb (register l) j) (bitOr x (weigh (getD c (l .number) false) (2 ^ l .bitNumber))) x)
 
--- some cause of c has the response "shut down, stay off": 80h, and C0h for IOUT_OC (response 47)
+-- the four registers with the bits of the present causes c
+unfoldable pub raised : List ℕ → List Bool → List ℕ
+raised s c = map (λ j. marked c j limits (getD s j 0)) (0 ∷ 1 ∷ 2 ∷ 3 ∷ [])
+
+-- some cause of c has a response, of those in r, that shuts down and stays off
 unfoldable pub staysOff : List Bool → List ℕ → Bool
 staysOff c r =
-    (getD c 0 false && eqb (getD r 0 0) 0x80)
-    || (getD c 1 false && eqb (getD r 1 0) 0xC0)
-    || (getD c 2 false && eqb (getD r 2 0) 0x80)
-    || (getD c 3 false && eqb (getD r 3 0) 0x80)
-    || (getD c 4 false && eqb (getD r 4 0) 0x80)
-    || (getD c 5 false && eqb (getD r 5 0) 0x80)
+    anyOf (λ x. getD c (x .limit .number) false && staysOffAt (x .response .actions) (getD r (x .limit .number) 0)) causes
 
--- some cause of c has the response "off while the fault lasts": C0h, which IOUT_OC has not
+-- some cause of c has one that keeps the page off for as long as the cause is present
 unfoldable pub offWhileLasts : List Bool → List ℕ → Bool
 offWhileLasts c r =
-    (getD c 0 false && eqb (getD r 0 0) 0xC0)
-    || (getD c 2 false && eqb (getD r 2 0) 0xC0)
-    || (getD c 3 false && eqb (getD r 3 0) 0xC0)
-    || (getD c 4 false && eqb (getD r 4 0) 0xC0)
-    || (getD c 5 false && eqb (getD r 5 0) 0xC0)
+    anyOf (λ x. getD c (x .limit .number) false && lastsAt (x .response .actions) (getD r (x .limit .number) 0)) causes
 
--- a page brought up to date with its present causes: their bits are set, and "after any call in which a present cause has the response
--- 'shut down, stay off', its page is tripped and remains so"
+-- some present cause of the page shuts it down
+abbrev pub shutDown : Page → Bool
+shutDown p = staysOff (presentCauses p) (p .responses)
+
+-- A page brought up to date with its present causes: their bits are set, and it is tripped where one of them shuts down (data sheet 6.4, 7.1).
 unfoldable pub settled : Page → Page
-settled p =
-    withTripped (withStatus p (raised (p .status) (presentCauses p)))
-    (p .tripped || staysOff (presentCauses p) (p .responses))
+settled p = withTripped (withStatus p (raised (p .status) (presentCauses p))) (p .tripped || shutDown p)

@@ -1,4 +1,6 @@
 pub mod Page
 pub mod Causes
+pub mod Latching
 pub mod Settings
 pub mod Status
+pub mod StatusWords

@@ -1,18 +1,19 @@
--- A page as power-on leaves it, and a page with one group of fields changed. A new field touches this file alone.
+-- A page as power-on leaves it, and a page with one group of fields changed.
 -- Assumes nothing.
 use Prim.Native.Nat.{ℕ}
-use mathlib.Core.Bool.{Bool, true, false}
-use mathlib.Core.List.{List, [], _∷_}
+use mathlib.Core.Bool.{Bool, false}
+use mathlib.Core.List.{List, [], _∷_, map}
+use Rattle.cause.specs.Causes.{limits, responses}
 use Rattle.page.specs.declared.Page.{Page}
 
--- document 01, 'Power-on': "VOUT_COMMAND 2666h, VOUT_OV 2A3Dh, IOUT_OC D280h, OT EB70h, UT EEC0h, VIN_OV D3FFh, VIN_UV C3F5h,
--- responses 80h but 47 C0h, no measurement, status clear, not tripped"
+-- Data sheet 1.4 and 3.1: the output off, the limits and responses as the table of causes has them, nothing measured, no bit set, not
+-- tripped.
 unfoldable pub powerOnPage : Page
 powerOnPage = record {
   operation = 0x00;
   command = 0x2666;
-  limits = 0x2A3D ∷ 0xD280 ∷ 0xEB70 ∷ 0xEEC0 ∷ 0xD3FF ∷ 0xC3F5 ∷ [];
-  responses = 0x80 ∷ 0xC0 ∷ 0x80 ∷ 0x80 ∷ 0x80 ∷ 0x80 ∷ [];
+  limits = map (λ l. l .powerOnLimit) limits;
+  responses = map (λ r. r .powerOnResponse) responses;
   words = 0 ∷ 0 ∷ 0 ∷ 0 ∷ [];
   measured = false ∷ false ∷ false ∷ false ∷ [];
   status = 0 ∷ 0 ∷ 0 ∷ 0 ∷ [];

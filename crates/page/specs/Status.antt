@@ -1,8 +1,7 @@
--- What a page shows (document 01, 'Status and output').
+-- What a page shows: whether it supplies, STATUS_BYTE and STATUS_WORD, its latest words, and which bits are new.
 -- Assumes nothing.
 use Prim.Native.Nat.{ℕ, _/_, _%_}
-use mathlib.Core.Bool.{Bool, true, false, cond, not, _&&_, _||_}
-use mathlib.Core.List.{List, [], _∷_}
+use mathlib.Core.Bool.{Bool, false, cond, not, _&&_, _||_}
 use lib.ListN.{getD}
 use lib.Dec.{eqb}
 use lib.Bits.{bitOr}
@@ -10,7 +9,7 @@ use Rattle.laws.specs.Bits.{bit}
 use Rattle.page.specs.declared.Page.{Page}
 use Rattle.page.specs.Causes.{presentCauses, offWhileLasts, weigh}
 
--- "A page supplies when OPERATION is 80h, it is not tripped and no present cause has the response 'off while the fault lasts'."
+-- it is on, not tripped, and no present cause keeps it off (data sheet 7.6)
 unfoldable pub supplies : Page → Bool
 supplies p = eqb (p .operation) 0x80 && not (p .tripped) && not (offWhileLasts (presentCauses p) (p .responses))
 
@@ -34,8 +33,7 @@ any x = not (eqb x 0)
 abbrev pub otherBit : Page → Bool
 otherBit p = any (vout p % 128) || any (iout p % 64) || any (input p / 32) || any (input p % 16)
 
--- "bit 6 page not supplying; 5 VOUT bit 7; 4 IOUT bit 7 or 6; 3 INPUT bit 4; 2 any TEMPERATURE bit; 1 any CML bit; 0 any other bit of
--- VOUT, IOUT, INPUT; 7 is 0"
+-- data sheet 6.10, a line of it for each weight
 unfoldable pub statusByte : Page → ℕ → ℕ
 statusByte p cml =
     bitOr
@@ -47,12 +45,12 @@ statusByte p cml =
     (weigh (any cml) 2))
     (weigh (otherBit p) 1)
 
--- "high byte bit 7 any VOUT, 6 any IOUT, 5 any INPUT, 3 not supplying, others 0"
+-- data sheet 6.11, the high byte
 unfoldable pub statusHigh : Page → ℕ
 statusHigh p =
     bitOr (bitOr (bitOr (weigh (any (vout p)) 128) (weigh (any (iout p)) 64)) (weigh (any (input p)) 32)) (weigh (not (supplies p)) 8)
 
--- "READ codes give the latest word, or 0000h."
+-- the latest word of a quantity, 0000h before any (data sheet 5.7)
 unfoldable pub reading : Page → ℕ → ℕ
 reading p q = cond (getD (p .measured) (q % 4) false) (getD (p .words) (q % 4) 0) 0
 
@@ -60,7 +58,7 @@ reading p q = cond (getD (p .measured) (q % 4) false) (getD (p .words) (q % 4) 0
 unfoldable pub anyStatus : Page → Bool
 anyStatus p = any (bitOr (bitOr (bitOr (vout p) (iout p)) (input p)) (temperature p))
 
--- the register x has a bit that y lacks: going from y to x "turns a bit from 0 to 1"
+-- the register x has a bit that y lacks
 abbrev pub gains : ℕ → ℕ → Bool
 gains y x = not (eqb (bitOr y x) y)
 

@@ -1,12 +1,14 @@
-// Which causes are present, and what they leave: latched status bits, and the trip.
+// Which causes are present, and what they leave: latched status bits, and the trip. The table of causes is written out here, for speed.
 ghost use mathlib.Core.Path.{_≡_};
 ghost use mathlib.Core.Bool.{_&&_};
-ghost use Rattle.page.specs.Causes.{above, below, aboveUnsigned, presentCauses, weigh, raised, staysOff, offWhileLasts, settled};
+ghost use Rattle.linear11.specs.Linear11.{linearOrder, wordOrder};
+ghost use Rattle.cause.specs.Causes.{above, below};
+ghost use Rattle.page.specs.Causes.{onSide, presentCauses, weigh, raised, staysOff, offWhileLasts, settled};
 use super::Page;
 
 // The measured word's value is strictly above the limit's. Early returns, here and below: six comparisons without them become slow vector code.
 fn above(measured: bool, word: u16, limit: u16) -> bool
-    ensures { λ r. ⌜ r ≡ (measured && above word limit) ⌝ }
+    ensures { λ r. ⌜ r ≡ (measured && onSide above (linearOrder word limit)) ⌝ }
 {
     if !measured {
         return false;
@@ -17,7 +19,7 @@ fn above(measured: bool, word: u16, limit: u16) -> bool
 
 // The measured word's value is strictly below the limit's.
 fn below(measured: bool, word: u16, limit: u16) -> bool
-    ensures { λ r. ⌜ r ≡ (measured && below word limit) ⌝ }
+    ensures { λ r. ⌜ r ≡ (measured && onSide below (linearOrder word limit)) ⌝ }
 {
     if !measured {
         return false;
@@ -28,7 +30,7 @@ fn below(measured: bool, word: u16, limit: u16) -> bool
 
 // The same for VOUT words, which are unsigned.
 fn above_unsigned(measured: bool, word: u16, limit: u16) -> bool
-    ensures { λ r. ⌜ r ≡ (measured && aboveUnsigned word limit) ⌝ }
+    ensures { λ r. ⌜ r ≡ (measured && onSide above (wordOrder word limit)) ⌝ }
 {
     if !measured {
         return false;
@@ -70,7 +72,7 @@ fn raised(status: [u8; 4], present: [bool; 6]) -> [u8; 4]
     ]
 }
 
-// Some present cause has the response 'shut down, stay off'.
+// Some present cause has a response that shuts down and stays off: 80h, and C0h for IOUT_OC.
 fn stays_off(present: [bool; 6], responses: [u8; 6]) -> bool
     ensures { λ r. ⌜ r ≡ staysOff present responses ⌝ }
 {
@@ -82,7 +84,7 @@ fn stays_off(present: [bool; 6], responses: [u8; 6]) -> bool
         | (present[5] & (responses[5] == 0x80))
 }
 
-// Some present cause has the response 'off while the fault lasts'. IOUT_OC has no such response.
+// Some present cause has a response that keeps the page off while it lasts: C0h, which IOUT_OC has not.
 pub fn off_while_lasts(present: [bool; 6], responses: [u8; 6]) -> bool
     ensures { λ r. ⌜ r ≡ offWhileLasts present responses ⌝ }
 {

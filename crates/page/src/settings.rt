@@ -1,6 +1,6 @@
 // What a host writes to a page and what is measured on it, each one change; and which data are valid.
 ghost use mathlib.Core.Path.{_≡_};
-ghost use Rattle.page.specs.Settings.{validOperation, validResponse, pageValid, operated, commanded, limited, responded, measured, cleared};
+ghost use Rattle.page.specs.Settings.{validOperation, validResponse, pageValid, setOperation, setVoutCommand, setLimit, setResponse, setMeasurement, clearBits};
 use super::Page;
 
 pub fn valid_operation(x: u8) -> bool
@@ -9,11 +9,11 @@ pub fn valid_operation(x: u8) -> bool
     (x == 0) | (x == 0x40) | (x == 0x80)
 }
 
-// Response 1 is IOUT_OC's, which has the action codes of section 10.5.2; the others have those of 10.5.1.
+// Response 1 is IOUT_OC's: its bytes have the meanings of a current fault, where 80h has none.
 pub fn valid_response(k: u8, x: u8) -> bool
     ensures { λ r. ⌜ r ≡ validResponse k x ⌝ }
 {
-    (x == 0) | (x == 0xC0) | ((k != 1) & (x == 0x80))
+    (x == 0) | ((k != 1) & (x == 0x80)) | (x == 0xC0)
 }
 
 // A page that no answer 15 goes to: OPERATION and every response are valid data.
@@ -30,8 +30,8 @@ pub fn page_valid(p: Page) -> bool
 }
 
 // OPERATION: 00h and 40h also untrip the page.
-pub fn operated(p: Page, x: u8) -> Page
-    ensures { λ r. ⌜ r ≡ operated p x ⌝ }
+pub fn set_operation(p: Page, x: u8) -> Page
+    ensures { λ r. ⌜ r ≡ setOperation p x ⌝ }
 {
     let mut q = p;
     q.operation = x;
@@ -40,16 +40,16 @@ pub fn operated(p: Page, x: u8) -> Page
 }
 
 // VOUT_COMMAND
-pub fn commanded(p: Page, word: u16) -> Page
-    ensures { λ r. ⌜ r ≡ commanded p word ⌝ }
+pub fn set_vout_command(p: Page, word: u16) -> Page
+    ensures { λ r. ⌜ r ≡ setVoutCommand p word ⌝ }
 {
     let mut q = p;
     q.command = word;
     q
 }
 
-pub fn limited(p: Page, k: u8, word: u16) -> Page
-    ensures { λ r. ⌜ r ≡ limited p k word ⌝ }
+pub fn set_limit(p: Page, k: u8, word: u16) -> Page
+    ensures { λ r. ⌜ r ≡ setLimit p k word ⌝ }
 {
     let i = (k % 6) as usize;
     let mut q = p;
@@ -57,8 +57,8 @@ pub fn limited(p: Page, k: u8, word: u16) -> Page
     q
 }
 
-pub fn responded(p: Page, k: u8, x: u8) -> Page
-    ensures { λ r. ⌜ r ≡ responded p k x ⌝ }
+pub fn set_response(p: Page, k: u8, x: u8) -> Page
+    ensures { λ r. ⌜ r ≡ setResponse p k x ⌝ }
 {
     let i = (k % 6) as usize;
     let mut q = p;
@@ -67,8 +67,8 @@ pub fn responded(p: Page, k: u8, x: u8) -> Page
 }
 
 // The latest word of a quantity.
-pub fn measured(p: Page, quantity: u8, word: u16) -> Page
-    ensures { λ r. ⌜ r ≡ measured p quantity word ⌝ }
+pub fn set_measurement(p: Page, quantity: u8, word: u16) -> Page
+    ensures { λ r. ⌜ r ≡ setMeasurement p quantity word ⌝ }
 {
     let i = (quantity % 4) as usize;
     let mut q = p;
@@ -77,11 +77,17 @@ pub fn measured(p: Page, quantity: u8, word: u16) -> Page
     q
 }
 
-// CLEAR_FAULTS: the four status registers, whatever bits they hold. It does not untrip.
-pub fn cleared(p: Page) -> Page
-    ensures { λ r. ⌜ r ≡ cleared p ⌝ }
+// Each of the four status registers loses the bits of its mask. The page stays tripped.
+pub fn clear_bits(p: Page, masks: [u8; 4]) -> Page
+    ensures { λ r. ⌜ r ≡ clearBits p masks ⌝ }
 {
+    let s = p.status;
     let mut q = p;
-    q.status = [0, 0, 0, 0];
+    q.status = [
+        s[0] ^ (s[0] & masks[0]),
+        s[1] ^ (s[1] & masks[1]),
+        s[2] ^ (s[2] & masks[2]),
+        s[3] ^ (s[3] & masks[3]),
+    ];
     q
 }

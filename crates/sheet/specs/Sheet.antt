@@ -1,4 +1,4 @@
--- The starred lines of document 01's bench sheet: what the definitions give beside what the sheet says, a row each.
+-- The proved lines of the bench sheet (data sheet 14.1): what is worked out, and what it has to be.
 -- Values of Linear11 words are scaled by 65,536.
 -- Assumes nothing.
 use Prim.Native.Nat.{ℕ, _*_}
@@ -15,8 +15,9 @@ use Rattle.totalizer.specs.Totalizer.{totalizer, replyCheck, replyAnswer, nextE
 use Rattle.totalizer.specs.Totalizer as totalizing
 use Rattle.energy.specs.Reply.{energyReply}
 use Rattle.page.specs.Page.{powerOnPage}
-use Rattle.page.specs.Settings.{measured}
-use Rattle.page.specs.Causes.{above, below, aboveUnsigned, presentCauses, present}
+use Rattle.cause.specs.Causes.{causes}
+use Rattle.page.specs.Settings.{setMeasurement}
+use Rattle.page.specs.Causes.{orderBy, onSide, crossed, presentCauses, present}
 
 -- numbers as they stand in a row
 abbrev numbers : List ℕ → List ℤ
@@ -30,7 +31,7 @@ outcome k = numbers (k .answer ∷ k .totalizer .energy ∷ k .totalizer .sample
 
 -- whether the cause VOUT_OV is present after a measurement of VOUT on a page as power-on leaves it
 abbrev overvoltage : ℕ → List ℤ
-overvoltage word = numbers (cond (present (measured powerOnPage 0 word) 0) 1 0 ∷ [])
+overvoltage word = numbers (cond (present (setMeasurement powerOnPage 0 word) 0) 1 0 ∷ [])
 
 abbrev pub table : List (List ℤ × List ℤ)
 table =
@@ -42,9 +43,9 @@ table =
     ∷ (scaledOf 0x8001 ∷ [], pos 1 ∷ [])  -- 8001h is 1/65536
     ∷ (scaledOf 0xEEC0 ∷ [], negℤ (pos (40 * 65536)) ∷ [])  -- EEC0h is -40
     ∷ (numbers (pec (0x01 ∷ []) ∷ []), numbers (0x07 ∷ []))  -- PEC of 01h is 07h
-    -- accumulator 7FFEh and sample 3 give 1 and one rollover; the sample is counted
+    -- a rollover; the sample is counted
     ∷ (fields (sampled (account 0x7FFE 0 0) 3 .account), numbers (1 ∷ 1 ∷ 1 ∷ []))
-    -- the totalizer from 7FFFh, 255, 16777215 to all zero adds 1 and 1: answer 0, totals 1 and 1
+    -- the wrap of both counters: answer 0, totals 1 and 1
     ∷ (outcome (totalize (totalizer true false (account 0x7FFF 255 16777215) 0 0) (energyReply (account 0 0 0))), numbers (0 ∷ 1 ∷ 1 ∷ []))
     ∷ (overvoltage 0x2A3D, numbers (0 ∷ []))  -- VOUT 2A3Dh no cause
     ∷ (overvoltage 0x2A3E, numbers (1 ∷ []))  -- VOUT 2A3Eh cause
@@ -55,5 +56,5 @@ pub sheet : map (λ row. row .0) table ≡ map (λ row. row .1) table
 unfolding
     scaledOf mantissa exponent signedOf wordOrder isAbove orderOf linearOrder isBelow pec pecFrom pecByte pecBit accountValid added sampled
     energyReading einBytes accountOf replyCheck replyAnswer nextEnergy nextSamples booked totalize totalizing.added energyReply powerOnPage
-    measured above below aboveUnsigned presentCauses
+    setMeasurement orderBy onSide crossed presentCauses causes
 sheet = refl

@@ -1,1 +1,1 @@
-// No code: the starred lines of document 01's bench sheet, one table and one statement.
+// No code: the proved lines of the bench sheet (data sheet 14.1), one table and one statement.

@@ -1,16 +1,16 @@
-// The device: power-on and the five calls, the whole state by value in and back.
+// The device: power-on and the five calls, the whole state by value in and back; and which supplies are on.
 ghost use mathlib.Core.Path.{_≡_};
 ghost use lib.ListN.{length};
-ghost use Rattle.transaction.specs.Reply.{replyOf};
 ghost use Rattle.device.specs.Device.{powerOn};
-ghost use Rattle.device.specs.Step.{writeDone, readDone, readReply, measureDone, sampleDone, alertDone, alertReply};
+ghost use Rattle.device.specs.Step.{write, read, measure, sample, alertResponse, step};
+ghost use Rattle.device.specs.Supply.{suppliesAt};
 use device::Device;
 use device::Done;
 
 // The state that power-on leaves.
 #[no_mangle]
 pub extern "C" fn tongsorrel_power_on() -> Device
-    ensures { λ r. ⌜ r ≡ powerOn ⌝ }
+    ensures { λ r. ⌜ r ≡ powerOn 8 ⌝ }
 {
     device::power_on()
 }
@@ -18,16 +18,16 @@ pub extern "C" fn tongsorrel_power_on() -> Device
 // A write transaction: the bytes from START to STOP.
 #[no_mangle]
 pub extern "C" fn tongsorrel_write(d: Device, bytes: &[u8]) -> Done
-    ensures { λ r. ⌜ r ≡ writeDone d (now (bytes .entry)) ⌝ }
+    ensures { λ r. ⌜ r ≡ step d (write (now (bytes .entry))) .done ⌝ }
 {
     device::write(d, bytes)
 }
 
-// A read transaction: the header up to the second address byte, and a reply buffer as long as the host clocks bytes.
+// A read transaction: the header, and a reply buffer as long as the host clocks bytes.
 #[no_mangle]
 pub extern "C" fn tongsorrel_read(d: Device, header: &[u8], reply: &mut [u8]) -> Done
-    ensures { λ r. ⌜ r ≡ readDone d (now (header .entry)) (length (now (reply .entry))) ⌝ }
-    ensures { λ r. ⌜ now (reply .exit) ≡ replyOf (readReply d (now (header .entry)) (length (now (reply .entry)))) (length (now (reply .entry))) ⌝ }
+    ensures { λ r. ⌜ r ≡ step d (read (now (header .entry)) (length (now (reply .entry)))) .done ⌝ }
+    ensures { λ r. ⌜ now (reply .exit) ≡ step d (read (now (header .entry)) (length (now (reply .entry)))) .reply ⌝ }
 {
     device::read(d, header, reply)
 }
@@ -35,24 +35,32 @@ pub extern "C" fn tongsorrel_read(d: Device, header: &[u8], reply: &mut [u8]) ->
 // The latest word of a quantity (0 VOUT, 1 IOUT, 2 VIN, 3 temperature) on a page.
 #[no_mangle]
 pub extern "C" fn tongsorrel_measure(d: Device, page: u8, quantity: u8, word: u16) -> Done
-    ensures { λ r. ⌜ r ≡ measureDone d page quantity word ⌝ }
+    ensures { λ r. ⌜ r ≡ step d (measure page quantity word) .done ⌝ }
 {
     device::measure(d, page, quantity, word)
 }
 
 // A power sample for the energy account.
 #[no_mangle]
-pub extern "C" fn tongsorrel_sample(d: Device, sample: u16) -> Done
-    ensures { λ r. ⌜ r ≡ sampleDone d sample ⌝ }
+pub extern "C" fn tongsorrel_sample(d: Device, power: u16) -> Done
+    ensures { λ r. ⌜ r ≡ step d (sample power) .done ⌝ }
 {
-    device::sample(d, sample)
+    device::sample(d, power)
 }
 
 // The alert response, with a reply buffer as long as the host clocks bytes.
 #[no_mangle]
 pub extern "C" fn tongsorrel_alert_response(d: Device, reply: &mut [u8]) -> Done
-    ensures { λ r. ⌜ r ≡ alertDone d (length (now (reply .entry))) ⌝ }
-    ensures { λ r. ⌜ now (reply .exit) ≡ replyOf (alertReply d (length (now (reply .entry)))) (length (now (reply .entry))) ⌝ }
+    ensures { λ r. ⌜ r ≡ step d (alertResponse (length (now (reply .entry)))) .done ⌝ }
+    ensures { λ r. ⌜ now (reply .exit) ≡ step d (alertResponse (length (now (reply .entry)))) .reply ⌝ }
 {
     device::alert_response(d, reply)
+}
+
+// Whether the firmware keeps the supply of a page switched on; a page over 7 is off.
+#[no_mangle]
+pub extern "C" fn tongsorrel_supplies(d: Device, page: u8) -> bool
+    ensures { λ r. ⌜ r ≡ suppliesAt (d .pages) page ⌝ }
+{
+    device::supply::supplies_page(d, page)
 }

@@ -1,4 +1,4 @@
--- The host's totalizer (document 01, 'Energy account' and answers 15 and 20 to 24): what one reply does to it.
+-- The host's totalizer (data sheet 10.1 to 10.7): what one reply does to it.
 -- Assumes nothing.
 use Prim.Native.Nat.{ℕ, _+_, _-_, _%_, _^_}
 use mathlib.Core.Bool.{Bool, true, false, cond, _&&_, not}
@@ -17,19 +17,19 @@ totalizer s c a e n = record { started = s; closed = c; last = a; energy = e; sa
 abbrev pub answered : ℕ → Totalizer → Taken
 answered n t = record { totalizer = t; answer = n }
 
--- "fresh, it has accepted nothing, isn't closed, totals 0, and its fields for the last accepted reply 0"
+-- nothing accepted yet, all numbers 0 (data sheet 10.1)
 unfoldable pub freshTotalizer : Totalizer
 freshTotalizer = totalizer false false (account 0 0 0) 0 0
 
--- "the difference .. modulo": how far a number that wraps at m went forward from last to new
+-- how far a number that wraps at m went forward from last to new (data sheet 10.5)
 abbrev pub gap : ℕ → ℕ → ℕ → ℕ
 gap m last new = (new + m - last) % m
 
--- the packet check of a reply: "the header is known", and the seven bytes of READ_EIN
+-- the packet check of a reply, over the header that every reply has and the seven data bytes (data sheet 10.2)
 unfoldable pub replyCheck : List ℕ → ℕ
 replyCheck s = pec (0xC0 ∷ 0x86 ∷ 0xC1 ∷ take 7 s)
 
--- answers 20 to 23, or 0 for a reply that passes them
+-- the tests of a reply in order, 0 where it passes them (data sheet 10.3)
 unfoldable pub replyAnswer : List ℕ → ℕ
 replyAnswer s =
     cond (not (eqb (length s) 8)) 20
@@ -37,29 +37,28 @@ replyAnswer s =
     (cond (not (eqb (getD s 0 0) 6)) 22
     (cond (ltb 0x7FFF (accountOf s .accumulator)) 23 0)))
 
--- the totals with the differences since the last accepted reply added
+-- the totals with the differences from the account kept (data sheet 10.5)
 unfoldable pub nextEnergy : Totalizer → Account → ℕ
 nextEnergy t a = t .energy + gap 8388608 (energyReading (t .last)) (energyReading a)
 
 unfoldable pub nextSamples : Totalizer → Account → ℕ
 nextSamples t a = t .samples + gap 16777216 (t .last .count) (a .count)
 
--- "24: a total would reach 2^64; changes only its closed mark"
+-- a total that no longer fits closes the totalizer and changes nothing else (data sheet 10.6)
 unfoldable pub added : Totalizer → Account → Taken
 added t a =
     cond (ltb (nextEnergy t a) (2 ^ 64) && ltb (nextSamples t a) (2 ^ 64))
     (answered 0 (totalizer true (t .closed) a (nextEnergy t a) (nextSamples t a)))
     (answered 24 (totalizer (t .started) true (t .last) (t .energy) (t .samples)))
 
--- an account that passed 20 to 23: "closed, started or not, each reply that passes 20 to 23 gets 24";
--- "The first accepted reply is the start, totals 0. Each later one adds the difference"
+-- a reply that passed the tests: 24 to a closed totalizer, a start, or an addition (data sheet 10.4, 10.5, 10.7)
 unfoldable pub booked : Totalizer → Account → Taken
 booked t a =
     cond (t .closed) (answered 24 t)
     (cond (not (t .started)) (answered 0 (totalizer true false a 0 0))
     (added t a))
 
--- one reply; "Under 15 and 20 to 23 the whole totalizer stays, the last accepted reply included"
+-- one reply; a totalizer that is not valid, and a reply that fails a test, leave everything (data sheet 10.3, 12.3)
 unfoldable pub totalize : Totalizer → List ℕ → Taken
 totalize t s =
     cond (not (accountValid (t .last))) (answered 15 t)

@@ -1,4 +1,4 @@
-// The lines of document 01's bench sheet under 'By program', each from power-on: a line of output for each answer.
+// The bench sheet's lines by program (data sheet 14.2), each from power-on: a line of output for each answer.
 // The frames of the sheet are the stored input of the program `bench`.
 
 fn line(n: u64) {

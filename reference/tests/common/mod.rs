@@ -57,7 +57,7 @@ pub fn device(change: impl FnOnce(&mut Device)) -> Device {
     device
 }
 
-/// Codes marked w with their data lengths, as document 01 lists them.
+/// Codes that are written, with their data lengths (data sheet 3.1).
 pub const WRITTEN: [(u8, usize); 17] = [
     (0x00, 1),
     (0x01, 1),

@@ -1,8 +1,9 @@
 -- `device::read` meets its contract.
 -- Assumes nothing.
+use mathlib.Core.Path.{_∙_}
+use Rattle.device.specs.Step.{read, answerOf}
+use Rattle.device.proofs.Calls.{answer-made, stepped, replied, read-left, read-bytes}
 use borrow.Author.Needs.{needs}
-use Rattle.device.specs.Device.{pageAt}
-use Rattle.device.specs.Step.{readDone, readReply, readAnswered, sent, refusedDevice}
 use Rattle.device.proofs.read.Statement.{statement}
 use Rattle.device.proofs.read.Tie as tie
 
@@ -12,20 +13,14 @@ device-valid-requires c κs = search needs
 read-answer-requires : tie.Need-read-answer-requires
 read-answer-requires c κs = search needs
 
-cast-k : tie.Need-cast-k
-cast-k c = search needs
-
-mul-p : tie.Need-mul-p
-mul-p c = search needs
-
-element-copy-out-p : tie.Need-element-copy-out-p
-element-copy-out-p c = search needs
-
-byte-at-requires : tie.Need-byte-at-requires
-byte-at-requires c κs = search needs
+answered-requires : tie.Need-answered-requires
+answered-requires c κs = search needs
 
 read-stream-requires : tie.Need-read-stream-requires
-read-stream-requires c κs = search needs
+unfolding answerOf
+read-stream-requires c κs =
+    let a = c .before .before .before .before .before .before .args in
+    answer-made (a .d) (read _ _) _ _ _ (c .before .before .device-valid .ensures) (c .before .read-answer .ensures) (c .answered .ensures)
 
 send-requires : tie.Need-send-requires
 send-requires c κs = search needs
@@ -37,8 +32,16 @@ same-length : tie.Need-same-length
 same-length c = search needs
 
 returns : tie.Need-returns
-unfolding readDone readReply readAnswered sent refusedDevice pageAt
-returns c = (cc, cc)
+unfolding answerOf
+returns c =
+    let sent = c .before .before .before in
+    let stream = sent .before .before in
+    let made = stream .before in
+    let a = made .before .before .before .before .before .before .args in
+    let e = answer-made (a .d) (read _ _) _ _ _ (made .before .before .device-valid .ensures) (made .before .read-answer .ensures) (made .answered .ensures) in (
+      stepped (a .d) (read _ _) _ _ e (c .refused .ensures ∙ read-left (a .d) _ _ _),
+      replied (a .d) (read _ _) _ _ _ e (stream .read-stream .ensures) (sent .send .ensures) (read-bytes (a .d) _ _ _),
+    )
 
 pub read-spec : {M : Type 1} → statement M
 read-spec =
@@ -46,10 +49,7 @@ read-spec =
     (tie.spec
     device-valid-requires
     read-answer-requires
-    cast-k
-    mul-p
-    element-copy-out-p
-    byte-at-requires
+    answered-requires
     read-stream-requires
     send-requires
     refused-requires

@@ -94,7 +94,7 @@ run-line-requires c κs = search needs
 add-m : tie.Need-add-m Inv-loop μ-loop
 add-m c =
     let h = c .before .before .before .before .before .before .before .before .before .before .before .before .before .before .before .before .loop in
-    omega (arith, c .before .before .before .before .before .before .before .before .before .before .before .before .before .before .before .before .before .before .before .before .good .1 .1 .1 .1 .1 .0, c .before .before .before .before .«run-line» .ensures .1 .1, c .before .before .before .before .before .before .before .before .before .before .before .before .before .before .if1 .left, h .inv .same-out, h .inv .fits)
+    omega (arith, c .before .before .before .before .before .before .before .before .before .before .before .before .before .before .before .before .before .before .before .before .good .1 .1 .1 .1 .1 .0, c .before .before .before .before .«run-line» .ensures .short, c .before .before .before .before .before .before .before .before .before .before .before .before .before .before .if1 .left, h .inv .same-out, h .inv .fits)
 
 loop-less : tie.Need-loop-less Inv-loop μ-loop
 loop-less c =
@@ -112,8 +112,8 @@ loop-again c =
     let w = c .before .before .before .before .before .before .before .whole in
     let t = c .before .before .before .before .«run-line» in
     goes-on (a .d) (a .line .now) (a .n) (a .block .now) (a .at) (a .out .now) (h .line) (h .out) (h .e) (h .k) (h .i) (h .m) (h .inv)
-    (c .before .before .before .before .before .before .before .before .before .before .before .before .before .before .before .«loop-test» .taken) (g .result) (g .ensures .0) (g .last .0) (g .ensures .1) (not-false _ (c .before .before .before .before .before .before .before .before .if2 .left)) (c .before .before .before .before .before .before .before .before .before .before .before .before .before .before .if1 .left) (w .result) (w .ensures) (t .result) (t .ensures .0)
-    (t .ensures .1 .1) (t .last .1 .1 .0) (t .ensures .1 .0)
+    (c .before .before .before .before .before .before .before .before .before .before .before .before .before .before .before .«loop-test» .taken) (g .result) (g .ensures .0) (g .last .0) (g .ensures .1) (not-false _ (c .before .before .before .before .before .before .before .before .if2 .left)) (c .before .before .before .before .before .before .before .before .before .before .before .before .before .before .if1 .left) (w .result) (w .ensures) (t .result) (t .ensures .same)
+    (t .ensures .short) (t .last .1 .1 .0) (t .ensures .text)
 
 reached-requires-3 : tie.Need-reached-requires-3 Inv-loop μ-loop
 reached-requires-3 c κs = search needs

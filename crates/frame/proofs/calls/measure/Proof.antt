@@ -1,5 +1,8 @@
 -- `frame::calls::measure` meets its contract.
 -- Assumes nothing.
+use mathlib.Core.Path.{refl}
+use Rattle.device.specs.Step.{step}
+use Rattle.frame.proofs.Outcomes.{told-done}
 use borrow.Author.Needs.{needs}
 use Rattle.frame.proofs.calls.measure.Statement.{statement}
 use Rattle.frame.proofs.calls.measure.Tie as tie
@@ -22,8 +25,15 @@ word-of-requires c κs = search needs
 measure-requires : tie.Need-measure-requires
 measure-requires c κs = search needs
 
+unreplied-requires : tie.Need-unreplied-requires
+unreplied-requires c κs = search needs
+
+same-length : tie.Need-same-length
+same-length c = search needs
+
 returns : tie.Need-returns
-returns c = cc
+unfolding step
+returns c = told-done (cc) refl (c .before .before .unreplied .ensures)
 
 pub measure-spec : {M : Type 1} → statement M
 measure-spec =
@@ -35,4 +45,6 @@ measure-spec =
     byte-at-requires-4
     word-of-requires
     measure-requires
+    unreplied-requires
+    same-length
     returns)

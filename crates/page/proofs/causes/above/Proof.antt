@@ -2,7 +2,7 @@
 -- Assumes nothing.
 use borrow.Author.Needs.{needs}
 use borrow.Author.Tests.{not-true, not-false}
-use Rattle.page.specs.Causes.{above}
+use Rattle.page.specs.Causes.{onSide}
 use Rattle.page.proofs.causes.above.Statement.{statement}
 use Rattle.page.proofs.causes.above.Tie as tie
 
@@ -16,7 +16,7 @@ is-above-requires : tie.Need-is-above-requires
 is-above-requires c κs = search needs
 
 returns-2 : tie.Need-returns-2
-unfolding above
+unfolding onSide
 returns-2 c = simp (not-false (c .before .before .before .args .measured) (c .before .before .if1 .left), c .is-above .ensures, c .before .compare-linear11 .ensures)
 
 pub above-spec : {M : Type 1} → statement M

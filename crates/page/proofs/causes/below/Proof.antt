@@ -2,7 +2,7 @@
 -- Assumes nothing.
 use borrow.Author.Needs.{needs}
 use borrow.Author.Tests.{not-true, not-false}
-use Rattle.page.specs.Causes.{below}
+use Rattle.page.specs.Causes.{onSide}
 use Rattle.page.proofs.causes.below.Statement.{statement}
 use Rattle.page.proofs.causes.below.Tie as tie
 
@@ -16,7 +16,7 @@ is-below-requires : tie.Need-is-below-requires
 is-below-requires c κs = search needs
 
 returns-2 : tie.Need-returns-2
-unfolding below
+unfolding onSide
 returns-2 c = simp (not-false (c .before .before .before .args .measured) (c .before .before .if1 .left), c .is-below .ensures, c .before .compare-linear11 .ensures)
 
 pub below-spec : {M : Type 1} → statement M

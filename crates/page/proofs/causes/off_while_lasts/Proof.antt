@@ -1,7 +1,6 @@
 -- `page::causes::off_while_lasts` meets its contract.
 -- Assumes nothing.
-use mathlib.Core.Path.{refl}
-use Rattle.page.specs.Causes.{offWhileLasts}
+use Rattle.page.proofs.Written.{off-while-lasts}
 use borrow.Author.Needs.{needs}
 use Rattle.page.proofs.causes.off_while_lasts.Statement.{statement}
 use Rattle.page.proofs.causes.off_while_lasts.Tie as tie
@@ -37,8 +36,7 @@ array-read-result-10 : tie.Need-array-read-result-10
 array-read-result-10 c = search needs
 
 returns : tie.Need-returns
-unfolding offWhileLasts
-returns c = refl
+returns c = off-while-lasts _ _
 
 pub off-while-lasts-spec : {M : Type 1} → statement M
 off-while-lasts-spec =

@@ -1,6 +1,7 @@
 -- `page::causes::raised` meets its contract.
 -- Assumes nothing.
-use Rattle.page.specs.Causes.{raised}
+use Rattle.cause.specs.Causes.{causes}
+use Rattle.page.specs.Causes.{raised, marked}
 use borrow.Author.Needs.{needs}
 use Rattle.page.proofs.causes.raised.Statement.{statement}
 use Rattle.page.proofs.causes.raised.Tie as tie
@@ -54,7 +55,7 @@ weigh-requires-6 : tie.Need-weigh-requires-6
 weigh-requires-6 c κs = search needs
 
 returns : tie.Need-returns
-unfolding raised
+unfolding raised marked causes
 returns c = simp (c .weigh6 .ensures, c .before .weigh5 .ensures, c .before .before .weigh4 .ensures, c .before .before .before .weigh3 .ensures, c .before .before .before .before .weigh2 .ensures, c .before .before .before .before .before .weigh .ensures)
 
 pub raised-spec : {M : Type 1} → statement M

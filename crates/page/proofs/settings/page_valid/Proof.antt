@@ -1,7 +1,7 @@
 -- `page::settings::page_valid` meets its contract.
 -- Assumes nothing.
 use borrow.Author.Needs.{needs}
-use Rattle.page.specs.Settings.{pageValid}
+use Rattle.page.proofs.Written.{page-valid}
 use Rattle.page.proofs.settings.page_valid.Statement.{statement}
 use Rattle.page.proofs.settings.page_valid.Tie as tie
 
@@ -45,8 +45,7 @@ valid-response-requires-6 : tie.Need-valid-response-requires-6
 valid-response-requires-6 c κs = search needs
 
 returns : tie.Need-returns
-unfolding pageValid
-returns c = cc
+returns c = rw (← page-valid) cc
 
 pub page-valid-spec : {M : Type 1} → statement M
 page-valid-spec =

@@ -1,0 +1,79 @@
+-- What the functions of the calls share: the answer, the page that a call needs, the state left and the reply.
+-- Assumes nothing.
+use Prim.Native.Nat.{ℕ, _%_, _<_}
+use mathlib.Core.Path.{_≡_, refl, ap, _∙_}
+use mathlib.Core.Bool.{Bool, true, cond}
+use mathlib.Core.List.{List}
+use native.Mathlib.Omega.{arith}
+use lib.Dec.{eqb, leb}
+use lib.ListN.{length, getD}
+use borrow.Author.Tests.{ltb-true, leb-false, eqb-true}
+use Rattle.laws.proofs.Branches.{either}
+use Rattle.page.specs.Page.{noPage}
+use Rattle.unpaged.specs.Unpaged.{validPage, cmlBits}
+use Rattle.unpaged.specs.Events.{measureAnswer}
+use Rattle.reads.specs.Answers.{answersData}
+use Rattle.reads.specs.Data.{readStream}
+use Rattle.reads.specs.Reply.{stream, streamOf, replyOf}
+use Rattle.reads.specs.declared.reply.Stream.{Stream}
+use Rattle.reads.proofs.Streams.{stream-bytes}
+use Rattle.reads.proofs.Lengths.{stream-length, alert-length}
+use Rattle.device.specs.declared.Device.{Device}
+use Rattle.device.specs.Device.{deviceValid}
+use Rattle.device.specs.Step.{Call, write, read, measure, alertResponse, answerOf, answered, effect, refusedDevice, left, sent, clocked, done, step}
+use Rattle.device.proofs.States.{valid-parts, answered-valid, answer-zero}
+use Rattle.device.proofs.Refused.{device-stays}
+
+module _ (d : Device) (c : Call) where
+  pub answer-made : (valid : Bool) (rule a : ℕ) → valid ≡ deviceValid d → rule ≡ answerOf d c → a ≡ cond valid rule 15 → a ≡ answered d c
+  unfolding answered
+  answer-made valid rule a v r e = e ∙ rw (v, r)
+
+  pub stepped : (next : Device) (a : ℕ) → a ≡ answered d c → next ≡ left d c a → done next a ≡ step d c .done
+  unfolding step
+  stepped next a e f = rw (f, e)
+
+  -- the reply buffer, by the stream that was sent into it
+  pub replied : (s : Stream) (r : List ℕ) (a : ℕ) → a ≡ answered d c → s ≡ stream (sent d c a)
+      → r ≡ replyOf (streamOf s) (clocked c) → streamOf (stream (sent d c a)) ≡ sent d c a → r ≡ step d c .reply
+  unfolding step
+  replied s r a e f g h = g ∙ rw (f, h, e)
+
+module _ (d : Device) where
+  -- a valid state selects a page that is there
+  pub valid-small : deviceValid d ≡ true → d .unpaged .page < length (d .pages)
+  unfolding validPage
+  valid-small v = ltb-true (d .unpaged .page) (length (d .pages)) (valid-parts d v .page)
+
+  -- a measurement with answer 0 names one
+  pub measured-small : (page quantity word : ℕ) → answered d (measure page quantity word) ≡ 0 → page < length (d .pages)
+  unfolding answerOf measureAnswer
+  measured-small page quantity word z =
+      let a = answer-zero d (measure page quantity word) z in
+      either (leb (length (d .pages)) page) (λ e. let n : 12 ≡ 0 = rw e at a in absurd (omega arith))
+      (λ e. leb-false (length (d .pages)) page e)
+
+  -- a read leaves what its answer's bit leaves, 0 among the answers
+  pub read-left : (header : List ℕ) (n a : ℕ) → refusedDevice d a ≡ left d (read header n) a
+  unfolding left effect cmlBits
+  read-left header n a =
+      either (eqb a 0) (λ y. rw y (device-stays d a (ap cmlBits (eqb-true a 0 y)))) (λ e. rw e)
+
+  -- what is sent of the selected page, taken out of eight by its number's remainder
+  pub sent-selected : (header : List ℕ) (n a : ℕ) → length (d .pages) ≡ 8 → a ≡ answered d (read header n)
+      → readStream (d .unpaged) (getD (d .pages) (d .unpaged .page % 8) noPage) a (getD header 1 0) ≡ sent d (read header n) a
+  unfolding sent readStream answered answersData
+  sent-selected header n a long e =
+      either (deviceValid d) (λ v.
+      let h = valid-small v in
+      let same : d .unpaged .page % 8 ≡ d .unpaged .page = omega arith in
+      ap (λ (i : ℕ). readStream (d .unpaged) (getD (d .pages) i noPage) a (getD header 1 0)) same)
+      (λ v. let z : a ≡ 15 = e ∙ rw v in rw z)
+
+  pub read-bytes : (header : List ℕ) (n a : ℕ) → streamOf (stream (sent d (read header n) a)) ≡ sent d (read header n) a
+  unfolding sent
+  read-bytes header n a = stream-bytes _ (stream-length (d .unpaged) (getD (d .pages) (d .unpaged .page) noPage) a (getD header 1 0))
+
+  pub alert-bytes : (n a : ℕ) → streamOf (stream (sent d (alertResponse n) a)) ≡ sent d (alertResponse n) a
+  unfolding sent
+  alert-bytes n a = stream-bytes _ (alert-length a)

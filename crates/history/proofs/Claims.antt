@@ -1,0 +1,47 @@
+-- The whole of specs/Claims.antt.
+-- Assumes nothing.
+use Rattle.history.specs.Claims.{Claims}
+use Rattle.history.proofs.Accepted.{accepted}
+use Rattle.history.proofs.Alert.{alert-rises, alert-cleared, alert-answered}
+use Rattle.history.proofs.Cml.{latches-cml, falls-cml}
+use Rattle.history.proofs.Effects.{effects}
+use Rattle.history.proofs.Energy.{demand3}
+use Rattle.history.proofs.Latching.{latched, latches, falls}
+use Rattle.history.proofs.Outcomes.{refused-call, takes-effect}
+use Rattle.history.proofs.PageAfter.{pages-stay}
+use Rattle.history.proofs.ReadBack.{stored-codes, written-back, write-then-read, measured-back}
+use Rattle.history.proofs.Refusals.{unchanged}
+use Rattle.history.proofs.Runs.{reached-whole}
+use Rattle.history.proofs.Tripping.{tripped, stays-tripped, trips}
+use Rattle.history.proofs.Valid.{fifteen, reached-valid, no-fifteen}
+
+pub claims : Claims
+claims =
+    record {
+      fifteen = fifteen;
+      reached-whole = reached-whole;
+      reached-valid = reached-valid;
+      no-fifteen = no-fifteen;
+      refused = refused-call;
+      unchanged = unchanged;
+      pages-stay = pages-stay;
+      effects = effects;
+      accepted = accepted;
+      takes-effect = takes-effect;
+      stored-codes = stored-codes;
+      written-back = written-back;
+      write-then-read = write-then-read;
+      measured-back = measured-back;
+      falls = falls;
+      falls-cml = falls-cml;
+      latched = latched;
+      latches = latches;
+      latches-cml = latches-cml;
+      tripped = tripped;
+      stays-tripped = stays-tripped;
+      trips = trips;
+      alert-rises = alert-rises;
+      alert-cleared = alert-cleared;
+      alert-answered = alert-answered;
+      demand3 = demand3;
+    }

@@ -1,0 +1,241 @@
+-- What was written is read back, and what was measured, after every run.
+-- Assumes nothing.
+use Prim.Native.Nat.{ℕ, zero, suc, _<_, _+_}
+use mathlib.Core.Path.{_≡_, refl, sym, ap, _∙_}
+use mathlib.Core.Bool.{Bool, true, false, cond, _&&_, _||_, or-true, false≢true}
+use mathlib.Core.List.{List, [], _∷_, map}
+use native.Mathlib.Nat.{not-suc-le-zero, le-of-suc-le-suc}
+use native.Mathlib.Omega.{arith}
+use lib.Dec.{eqb, ltb, ltb→lt}
+use lib.ListN.{length, getD, replicate}
+use borrow.Author.Tests.{eqb-true, eq-eqb, le-ltb}
+use Rattle.laws.specs.Lists.{Bytes, anyOf}
+use Rattle.laws.proofs.Branches.{either}
+use Rattle.laws.proofs.Every.{each, agree, agree-test}
+use Rattle.cause.specs.Causes.{readCodes}
+use Rattle.command.specs.declared.meaning.Command.the-variants.{Reading}
+use Rattle.command.specs.Table.{table, entryOf, lookup}
+use Rattle.command.specs.Meaning.{commandOf, readingOf}
+use Rattle.page.specs.declared.Page.{Page}
+use Rattle.page.specs.Page.{powerOnPage, noPage}
+use Rattle.page.specs.Status.{reading}
+use Rattle.unpaged.specs.declared.Unpaged.{Unpaged}
+use Rattle.unpaged.specs.Unpaged.{actsOn, powerOnUnpaged}
+use Rattle.reads.specs.Answers.{readAnswer, headerAnswer, entryAnswer}
+use Rattle.reads.specs.Data.{wordBytes, readData}
+use Rattle.reads.specs.Replies.{RepliesFollow}
+use Rattle.reads.proofs.Replies.{replies-follow}
+use Rattle.device.specs.declared.Device.{Device}
+use Rattle.device.specs.Device.{powerOn, deviceValid, pageOf}
+use Rattle.device.specs.Step.{Call, write, read, answerOf, sent, step}
+use Rattle.device.proofs.States.{answered-of}
+use Rattle.history.specs.Run.{next, answer, run, reached}
+use Rattle.history.specs.Valid.{ReachedWhole, ReachedValid}
+use Rattle.history.specs.Accepted.{codeOf}
+use Rattle.history.specs.ReadBack.{latest, OnBus, AllOnBus, Reads, stored, storedAt, StoredCodes, isUnpaged, stores, writtenData, WrittenBack, WriteThenRead, measures, measuredWord, MeasuredBack}
+use Rattle.history.proofs.Runs.{kept-in-runs, same-length, reached-whole}
+use Rattle.history.proofs.Valid.{valid-after, reached-valid}
+use Rattle.history.proofs.Effects.{page-after-write}
+use Rattle.history.proofs.Fields.{powered-sized}
+use Rattle.history.proofs.Stored.{PageField, DeviceField, Field, onPage, onDevice, Row, each-at, rows}
+use Rattle.history.proofs.StoredSteps.{AllSized, sized-after, page-steps, reading-steps, device-steps}
+
+-- ---- a read of a code that may be read replies with its data
+
+module _ (d : Device) (v : deviceValid d ≡ true) (code : ℕ) (small : code < 256) (readable : lookup code .read ≡ true) where
+  abbrev c : Call
+  c = read (0xC0 ∷ code ∷ 0xC1 ∷ []) (lookup code .length)
+
+  answers : readAnswer (d .unpaged) (0xC0 ∷ code ∷ 0xC1 ∷ []) (lookup code .length) ≡ 0
+  unfolding readAnswer headerAnswer entryAnswer
+  answers =
+      let k = lookup code .length in
+      rw (readable, le-ltb k k (omega arith), le-ltb (k + 1) k (omega arith))
+
+  read-answer : answer d c ≡ 0
+  unfolding step answerOf
+  read-answer = answered-of d c v ∙ answers
+
+  read-reply : step d c .reply ≡ readData (d .unpaged) (pageOf d (d .unpaged .page)) (commandOf code)
+  unfolding step answerOf sent RepliesFollow Bytes
+  read-reply =
+      rw (answered-of d c v)
+      (replies-follow (d .unpaged) (pageOf d (d .unpaged .page)) (0xC0 ∷ code ∷ 0xC1 ∷ []) (lookup code .length)
+      (omega arith, (small, (omega arith, tt))) .plain answers refl)
+
+  reads-data : (bytes : List ℕ) → readData (d .unpaged) (pageOf d (d .unpaged .page)) (commandOf code) ≡ bytes → Reads d code bytes
+  reads-data bytes e = record { accepted = read-answer; reply = read-reply ∙ e }
+
+-- ---- runs
+
+-- a view of the state that each call changes to what it gave, where it passes the test, is after a run what the latest such call gave
+module _ {A : Type 0} (test : Device → Call → Bool) (given : Call → A) (view : Device → A) (Inv : Device → Type 0) (keeps : (d : Device) (c : Call) → Inv d → Inv (next d c)) where
+  on-bus-latest : ((d : Device) (c : Call) → Inv d → OnBus c → view (next d c) ≡ cond (test d c) (given c) (view d))
+      → (d : Device) (cs : List Call) → Inv d → AllOnBus cs → view (run d cs) ≡ latest test given d cs (view d)
+  unfolding latest run AllOnBus
+  on-bus-latest steps d [] inv b = refl
+  on-bus-latest steps d (c ∷ cs) inv b =
+      on-bus-latest steps (next d c) cs (keeps d c inv) (b .1)
+      ∙ ap (latest test given (next d c) cs) (steps d c inv (b .0))
+
+  all-latest : ((d : Device) (c : Call) → Inv d → view (next d c) ≡ cond (test d c) (given c) (view d))
+      → (d : Device) (cs : List Call) → Inv d → view (run d cs) ≡ latest test given d cs (view d)
+  unfolding latest run
+  all-latest steps d [] inv = refl
+  all-latest steps d (c ∷ cs) inv =
+      all-latest steps (next d c) cs (keeps d c inv) ∙ ap (latest test given (next d c) cs) (steps d c inv)
+
+record Kept (n : ℕ) (d : Device) : Type 0 where
+  whole : length (d .pages) ≡ n
+  sized : AllSized d
+
+kept-after : (n : ℕ) (d : Device) (c : Call) → Kept n d → Kept n (next d c)
+kept-after n d c k = record { whole = same-length d c ∙ k .whole; sized = sized-after d c (k .sized) }
+
+powered-page : (n i : ℕ) → i < n → getD (replicate n powerOnPage) i noPage ≡ powerOnPage
+powered-page zero i h = absurd (not-suc-le-zero h)
+powered-page (suc n) zero h = refl
+powered-page (suc n) (suc i) h = powered-page n i (le-of-suc-le-suc h)
+
+powered-at : (n i : ℕ) → i < n → pageOf (powerOn n) i ≡ powerOnPage
+unfolding powerOn
+powered-at n i h = powered-page n i h
+
+powered-kept : (n : ℕ) → Kept n (powerOn n)
+unfolding ReachedWhole run
+powered-kept n =
+    let w = reached-whole n [] in
+    record { whole = w; sized = record { at = λ i h. rw (powered-at n i (rw w at h)) powered-sized } }
+
+module _ (n : ℕ) (cs : List Call) (i : ℕ) (small : i < n) where
+  abbrev d : Device
+  d = reached n cs
+
+  stored-page : (code : ℕ) (f : PageField code) → AllOnBus cs
+      → f .get (pageOf d i) ≡ latest (stores i code) writtenData (powerOn n) cs (f .get powerOnPage)
+  stored-page code f b =
+      on-bus-latest (stores i code) writtenData (λ (e : Device). f .get (pageOf e i)) (Kept n) (kept-after n)
+      (λ e c k o. page-steps e (k .sized) i (rw (k .whole) small) code f c o) (powerOn n) cs (powered-kept n) b
+      ∙ ap (λ (p : Page). latest (stores i code) writtenData (powerOn n) cs (f .get p)) (powered-at n i small)
+
+  stored-device : (code : ℕ) (f : DeviceField code)
+      → f .get (d .unpaged .page) (d .unpaged .protect)
+      ≡ latest (stores i code) writtenData (powerOn n) cs (f .get (powerOnUnpaged .page) (powerOnUnpaged .protect))
+  unfolding powerOn
+  stored-device code f =
+      all-latest (stores i code) writtenData (λ (e : Device). f .get (e .unpaged .page) (e .unpaged .protect)) (λ e. Unit) (λ e c k. tt)
+      (λ e c k. device-steps e i code f c) (powerOn n) cs tt
+
+  measured-word : (q : ℕ) → q < 4 → reading (pageOf d i) q ≡ latest (measures i q) measuredWord (powerOn n) cs (reading powerOnPage q)
+  measured-word q few =
+      all-latest (measures i q) measuredWord (λ (e : Device). reading (pageOf e i) q) (Kept n) (kept-after n)
+      (λ e c k. reading-steps e (k .sized) i (rw (k .whole) small) q few c) (powerOn n) cs (powered-kept n)
+      ∙ ap (λ (p : Page). latest (measures i q) measuredWord (powerOn n) cs (reading p q)) (powered-at n i small)
+
+-- ---- the claims
+
+pub stored-codes : StoredCodes
+unfolding StoredCodes lookup table entryOf
+stored-codes c h =
+    agree-test (λ c. lookup c .written && lookup c .read) (λ c. anyOf (eqb c) (map (λ r. r .0) stored)) 256 tt c h
+
+module _ (m : ℕ) (h : m < length stored) where
+  stored-byte : storedAt m .0 < 256
+  stored-byte = ltb→lt (storedAt m .0) 256 (each (λ m. ltb (storedAt m .0) 256) 16 tt m h)
+
+  stored-read : lookup (storedAt m .0) .read ≡ true
+  unfolding lookup table entryOf
+  stored-read = agree-test (λ m. lookup (storedAt m .0) .read) (λ m. true) 16 tt m h
+
+module _ (n : ℕ) (cs : List Call) (i : ℕ) (b : AllOnBus cs) (small : i < n) (code : ℕ) (start : List ℕ) where
+  abbrev after : Device
+  after = reached n cs
+
+  abbrev due : List ℕ
+  due = latest (stores i code) writtenData (powerOn n) cs start
+
+  reads-field : Field code → readData powerOnUnpaged powerOnPage (commandOf code) ≡ start → (isUnpaged code || eqb (after .unpaged .page) i) ≡ true
+      → readData (after .unpaged) (pageOf after (after .unpaged .page)) (commandOf code) ≡ due
+  reads-field (onPage f) e selected =
+      let there : after .unpaged .page ≡ i = eqb-true (after .unpaged .page) i (rw (f .paged) at selected) in
+      f .shown (after .unpaged) (pageOf after (after .unpaged .page))
+      ∙ ap (λ (j : ℕ). f .get (pageOf after j)) there ∙ stored-page n cs i small code f b
+      ∙ ap (latest (stores i code) writtenData (powerOn n) cs) (sym (f .shown powerOnUnpaged powerOnPage) ∙ e)
+  reads-field (onDevice f) e selected =
+      f .shown (after .unpaged) (pageOf after (after .unpaged .page)) ∙ stored-device n cs i small code f
+      ∙ ap (latest (stores i code) writtenData (powerOn n) cs) (sym (f .shown powerOnUnpaged powerOnPage) ∙ e)
+
+pub written-back : WrittenBack
+unfolding WrittenBack ReachedValid
+written-back n cs i m ok b small h selected =
+    let r = each-at Row (0x00, []) stored rows m h in
+    reads-data (reached n cs) (reached-valid n cs ok) (storedAt m .0) (stored-byte m h) (stored-read m h)
+    (latest (stores i (storedAt m .0)) writtenData (powerOn n) cs (storedAt m .1))
+    (reads-field n cs i b small (storedAt m .0) (storedAt m .1) (r .field) (r .powered) selected)
+
+-- right after a write
+module _ (d : Device) (s : List ℕ) (z : answer d (write s) ≡ 0) (code : ℕ) (same : codeOf s ≡ code) where
+  abbrev e : Device
+  e = next d (write s)
+
+  stores-it : stores (d .unpaged .page) code d (write s) ≡ true
+  unfolding stores actsOn
+  stores-it = rw (eq-eqb (answer d (write s)) 0 z, eq-eqb (codeOf s) code same, eq-eqb (d .unpaged .page) (d .unpaged .page) refl) (or-true (isUnpaged code))
+
+  same-page : isUnpaged code ≡ false → e .unpaged .page ≡ d .unpaged .page
+  same-page p =
+      page-after-write d s z
+      ∙ rw (same, either (eqb code 0x00) (λ y. absurd (false≢true (sym p ∙ rw y))) (λ n. n))
+
+  reads-it : Field code → AllSized d → d .unpaged .page < length (d .pages) → Bytes s
+      → readData (e .unpaged) (pageOf e (e .unpaged .page)) (commandOf code) ≡ writtenData (write s)
+  reads-it (onPage f) g small b =
+      f .shown (e .unpaged) (pageOf e (e .unpaged .page))
+      ∙ ap (λ (j : ℕ). f .get (pageOf e j)) (same-page (f .paged))
+      ∙ page-steps d g (d .unpaged .page) small code f (write s) b ∙ rw stores-it
+  reads-it (onDevice f) g small b =
+      f .shown (e .unpaged) (pageOf e (e .unpaged .page)) ∙ device-steps d (d .unpaged .page) code f (write s) ∙ rw stores-it
+
+pub write-then-read : WriteThenRead
+unfolding WriteThenRead ReachedValid
+write-then-read n cs s m ok b h same small z =
+    let d = reached n cs in
+    let k = kept-in-runs (Kept n) (kept-after n) (powerOn n) cs (powered-kept n) in
+    rw same
+    (reads-data (next d (write s)) (valid-after d (write s) (reached-valid n cs ok)) (storedAt m .0) (stored-byte m h) (stored-read m h)
+    (writtenData (write s))
+    (reads-it d s z (storedAt m .0) same (each-at Row (0x00, []) stored rows m h .field) (k .sized) (rw (k .whole) small) b))
+
+read-means : (q : ℕ) → q < 4 → commandOf (getD readCodes q 0) ≡ Reading q
+unfolding commandOf readingOf
+read-means zero h = refl
+read-means (suc zero) h = refl
+read-means (suc (suc zero)) h = refl
+read-means (suc (suc (suc zero))) h = refl
+read-means (suc (suc (suc (suc q)))) h = absurd (omega arith)
+
+module _ (q : ℕ) (few : q < 4) where
+  read-byte : getD readCodes q 0 < 256
+  read-byte = ltb→lt (getD readCodes q 0) 256 (each (λ q. ltb (getD readCodes q 0) 256) 4 tt q few)
+
+  read-read : lookup (getD readCodes q 0) .read ≡ true
+  unfolding lookup table entryOf
+  read-read = agree-test (λ q. lookup (getD readCodes q 0) .read) (λ q. true) 4 tt q few
+
+  read-data : (u : Unpaged) (p : Page) → readData u p (commandOf (getD readCodes q 0)) ≡ wordBytes (reading p q)
+  unfolding readData
+  read-data u p = rw (read-means q few)
+
+  powered-zero : reading powerOnPage q ≡ 0
+  unfolding reading powerOnPage
+  powered-zero = agree (λ q. reading powerOnPage q) (λ q. 0) 4 tt q few
+
+pub measured-back : MeasuredBack
+unfolding MeasuredBack ReachedValid
+measured-back n cs i q ok small few selected =
+    let d = reached n cs in
+    reads-data d (reached-valid n cs ok) (getD readCodes q 0) (read-byte q few) (read-read q few)
+    (wordBytes (latest (measures i q) measuredWord (powerOn n) cs 0))
+    (read-data q few (d .unpaged) (pageOf d (d .unpaged .page))
+    ∙ ap (λ (j : ℕ). wordBytes (reading (pageOf d j) q)) selected
+    ∙ ap wordBytes (measured-word n cs i small q few ∙ ap (latest (measures i q) measuredWord (powerOn n) cs) (powered-zero q few)))

@@ -1,0 +1,77 @@
+-- Everything that is guaranteed of the device, over single calls and over runs from power-on: the table of contents of this folder, a line
+-- for each statement. proofs/Claims.antt proves the whole, so that none goes missing.
+-- Assumes nothing.
+use Rattle.history.specs.Valid.{Fifteen, ReachedWhole, ReachedValid, NoFifteen}
+use Rattle.history.specs.Refusals.{Refused, Unchanged}
+use Rattle.history.specs.Accepted.{Accepted, TakesEffect}
+use Rattle.history.specs.Pages.{PagesStay}
+use Rattle.history.specs.Clearing.{Falls, FallsCml}
+use Rattle.history.specs.Latching.{Latched, Latches, LatchesCml}
+use Rattle.history.specs.Tripping.{Tripped, StaysTripped, Trips}
+use Rattle.history.specs.Alert.{AlertRises, AlertCleared, AlertAnswered}
+use Rattle.history.specs.Energy.{Demand3}
+use Rattle.history.specs.Effects.{Effects}
+use Rattle.history.specs.ReadBack.{StoredCodes, WrittenBack, WriteThenRead, MeasuredBack}
+
+pub record Claims : Type 0 where
+  -- ---- which states get answer 15 (Valid.antt; data sheet 12)
+  -- every call to a state that is not valid gets 15, and no other call does
+  pub fifteen : Fifteen
+  -- a run of a device of n pages has n pages throughout
+  pub reached-whole : ReachedWhole
+  -- with one to ninety-six pages each of its states is valid
+  pub reached-valid : ReachedValid
+  -- so that none of its calls gets 15
+  pub no-fifteen : NoFifteen
+  -- ---- what a call leaves alone (Refusals.antt, Pages.antt; data sheet 11.6, 3.2)
+  -- a refusal changes at most STATUS_CML and the alert
+  pub refused : Refused
+  -- and with answers 1, 2 and 12 to 15 nothing at all
+  pub unchanged : Unchanged
+  -- a write changes no page that it does not act on, a measurement none that it does not name, any other call none
+  pub pages-stay : PagesStay
+  -- with answer 0 a read changes nothing, an alert response only the alert, a sample only the account, a measurement only its page and the
+  -- alert, and a write neither the account nor a measured word (Effects.antt)
+  pub effects : Effects
+  -- ---- which writes are accepted (Accepted.antt; data sheet 3.7)
+  -- answer 0 exactly where a write is well formed, permitted and of valid data
+  pub accepted : Accepted
+  -- and then it takes effect
+  pub takes-effect : TakesEffect
+  -- ---- what is read back (ReadBack.antt; data sheet 3.4, 5.7)
+  -- the codes that keep what is written to them are all that the table has as written and read
+  pub stored-codes : StoredCodes
+  -- after every run such a code reads as its latest accepted write, on that page, or as power-on left it
+  pub written-back : WrittenBack
+  -- right after an accepted write it reads the data written
+  pub write-then-read : WriteThenRead
+  -- after every run a READ code gives the latest word measured on that page, or 0000h
+  pub measured-back : MeasuredBack
+  -- ---- status bits (Clearing.antt, Latching.antt; data sheet 6.4, 6.5, 6.9)
+  -- a bit of a page falls by a listed clearing alone
+  pub falls : Falls
+  -- so does a bit of STATUS_CML
+  pub falls-cml : FallsCml
+  -- after every call of a run each present cause has its bit
+  pub latched : Latched
+  -- each bit of a page after a call, in one equation
+  pub latches : Latches
+  -- each bit of STATUS_CML after a call, in one equation
+  pub latches-cml : LatchesCml
+  -- ---- trips (Tripping.antt; data sheet 7.1, 7.2, 7.4)
+  -- after every call of a run a page with a present cause that shuts it down is tripped
+  pub tripped : Tripped
+  -- OPERATION 00h or 40h alone ends a trip
+  pub stays-tripped : StaysTripped
+  -- the trip after a call, in one equation
+  pub trips : Trips
+  -- ---- the alert (Alert.antt; data sheet 8)
+  -- it rises exactly with a bit that turns from 0 to 1, and stays up
+  pub alert-rises : AlertRises
+  -- after a clearing it is up exactly while some bit is 1
+  pub alert-cleared : AlertCleared
+  -- an answered alert response leaves it down
+  pub alert-answered : AlertAnswered
+  -- ---- energy (Energy.antt; data sheet 10)
+  -- the host's totals are those of the samples that the device took, whichever replies are lost, repeated or damaged
+  pub demand3 : Demand3

@@ -1,0 +1,135 @@
+-- What was written is read back, and what was measured: said by the calls of a run and their answers, without the definition of what a call
+-- does to the state.
+-- Assumes nothing.
+use Prim.Native.Nat.{ℕ, _<_, _/_, _%_}
+use mathlib.Core.Path.{_≡_}
+use mathlib.Core.Bool.{Bool, true, false, cond, _&&_, _||_}
+use mathlib.Core.List.{List, [], _∷_, map}
+use lib.Dec.{eqb}
+use lib.ListN.{length, getD, take}
+use Rattle.laws.specs.Lists.{anyOf, Bytes}
+use Rattle.cause.specs.Causes.{readCodes}
+use Rattle.command.specs.Table.{lookup}
+use Rattle.unpaged.specs.Unpaged.{actsOn}
+use Rattle.device.specs.declared.Device.{Device}
+use Rattle.device.specs.Device.{supported, powerOn}
+use Rattle.device.specs.Step.{Call, write, read, measure, sample, alertResponse, step}
+use Rattle.history.specs.Run.{next, answer, reached}
+use Rattle.history.specs.Accepted.{codeOf}
+
+-- what the latest call of a run from d that passes a test gave, or else `old`
+unfoldable pub latest : {A : Type 0} → (Device → Call → Bool) → (Call → A) → Device → List Call → A → A
+latest test given d [] old = old
+latest test given d (c ∷ cs) old = latest test given (next d c) cs (cond (test d c) (given c) old)
+
+-- the bytes of a write are bytes
+abbrev pub OnBus : Call → Type 0
+OnBus (write s) = Bytes s
+OnBus (read header n) = Unit
+OnBus (measure page quantity word) = Unit
+OnBus (sample n) = Unit
+OnBus (alertResponse n) = Unit
+
+unfoldable pub AllOnBus : List Call → Type 0
+AllOnBus [] = Unit
+AllOnBus (c ∷ cs) = OnBus c × AllOnBus cs
+
+-- a read of a code, of as many bytes as the table says, is answered and replies with these
+pub record Reads (d : Device) (code : ℕ) (bytes : List ℕ) : Type 0 where
+  pub accepted : answer d (read (0xC0 ∷ code ∷ 0xC1 ∷ []) (lookup code .length)) ≡ 0
+  pub reply : step d (read (0xC0 ∷ code ∷ 0xC1 ∷ []) (lookup code .length)) .reply ≡ bytes
+
+-- ---- written values (data sheet 3.4)
+
+-- The codes that keep what is written to them, each with its data after power-on (data sheet 3.1).
+abbrev pub stored : List (ℕ × List ℕ)
+stored =
+    (0x00, 0x00 ∷ [])  -- PAGE
+    ∷ (0x01, 0x00 ∷ [])  -- OPERATION
+    ∷ (0x10, 0x00 ∷ [])  -- WRITE_PROTECT
+    ∷ (0x21, 0x66 ∷ 0x26 ∷ [])  -- VOUT_COMMAND
+    ∷ (0x40, 0x3D ∷ 0x2A ∷ [])  -- VOUT_OV_FAULT_LIMIT
+    ∷ (0x41, 0x80 ∷ [])  -- VOUT_OV_FAULT_RESPONSE
+    ∷ (0x46, 0x80 ∷ 0xD2 ∷ [])  -- IOUT_OC_FAULT_LIMIT
+    ∷ (0x47, 0xC0 ∷ [])  -- IOUT_OC_FAULT_RESPONSE
+    ∷ (0x4F, 0x70 ∷ 0xEB ∷ [])  -- OT_FAULT_LIMIT
+    ∷ (0x50, 0x80 ∷ [])  -- OT_FAULT_RESPONSE
+    ∷ (0x53, 0xC0 ∷ 0xEE ∷ [])  -- UT_FAULT_LIMIT
+    ∷ (0x54, 0x80 ∷ [])  -- UT_FAULT_RESPONSE
+    ∷ (0x55, 0xFF ∷ 0xD3 ∷ [])  -- VIN_OV_FAULT_LIMIT
+    ∷ (0x56, 0x80 ∷ [])  -- VIN_OV_FAULT_RESPONSE
+    ∷ (0x59, 0xF5 ∷ 0xC3 ∷ [])  -- VIN_UV_FAULT_LIMIT
+    ∷ (0x5A, 0x80 ∷ [])  -- VIN_UV_FAULT_RESPONSE
+    ∷ []
+
+abbrev pub storedAt : ℕ → ℕ × List ℕ
+storedAt m = getD stored m (0x00, [])
+
+-- they are all codes that are both written and read
+unfoldable pub StoredCodes : Type 0
+StoredCodes =
+    (c : ℕ) → c < 256
+    → (lookup c .written && lookup c .read) ≡ anyOf (eqb c) (map (λ r. r .0) stored)
+
+-- PAGE and WRITE_PROTECT belong to the device; each page has its own copy of the others
+abbrev pub isUnpaged : ℕ → Bool
+isUnpaged code = eqb code 0x00 || eqb code 0x10
+
+-- a call stores a code of page i: it is an accepted write of that code, and acts on that page
+unfoldable pub stores : ℕ → ℕ → Device → Call → Bool
+stores i code d (write s) = eqb (answer d (write s)) 0 && eqb (codeOf s) code && (isUnpaged code || actsOn (d .unpaged) i)
+stores i code d (read header n) = false
+stores i code d (measure page quantity word) = false
+stores i code d (sample n) = false
+stores i code d (alertResponse n) = false
+
+-- the data of a write: the one or two bytes behind its code
+unfoldable pub writtenData : Call → List ℕ
+writtenData (write s) = take (lookup (codeOf s) .length) (getD s 2 0 ∷ getD s 3 0 ∷ [])
+writtenData (read header n) = []
+writtenData (measure page quantity word) = []
+writtenData (sample n) = []
+writtenData (alertResponse n) = []
+
+-- After every run a stored code reads as the latest accepted write of it left it, on page i for a paged one while that page is selected.
+unfoldable pub WrittenBack : Type 0
+WrittenBack =
+    (n : ℕ) (cs : List Call) (i m : ℕ) → supported n ≡ true → AllOnBus cs → i < n → m < length stored
+    → (isUnpaged (storedAt m .0) || eqb (reached n cs .unpaged .page) i) ≡ true
+    → Reads (reached n cs) (storedAt m .0) (latest (stores i (storedAt m .0)) writtenData (powerOn n) cs (storedAt m .1))
+
+-- In particular right after it: an accepted write of a stored code, and then a read of that code, while a page is selected.
+unfoldable pub WriteThenRead : Type 0
+WriteThenRead =
+    (n : ℕ) (cs : List Call) (s : List ℕ) (m : ℕ) → supported n ≡ true → Bytes s → m < length stored → codeOf s ≡ storedAt m .0
+    → reached n cs .unpaged .page < n → answer (reached n cs) (write s) ≡ 0
+    → Reads (next (reached n cs) (write s)) (codeOf s) (writtenData (write s))
+
+-- ---- measured values (data sheet 5.6, 5.7)
+
+-- a call measures quantity q of page i
+unfoldable pub measures : ℕ → ℕ → Device → Call → Bool
+measures i q d (write s) = false
+measures i q d (read header n) = false
+measures i q d (measure page quantity word) = eqb (answer d (measure page quantity word)) 0 && eqb page i && eqb quantity q
+measures i q d (sample n) = false
+measures i q d (alertResponse n) = false
+
+-- the word
+unfoldable pub measuredWord : Call → ℕ
+measuredWord (write s) = 0
+measuredWord (read header n) = 0
+measuredWord (measure page quantity word) = word
+measuredWord (sample n) = 0
+measuredWord (alertResponse n) = 0
+
+-- a word is read low byte first
+abbrev pub lowFirst : ℕ → List ℕ
+lowFirst w = w % 256 ∷ w / 256 ∷ []
+
+-- After every run the READ code of a quantity, with page i selected, reads as the latest accepted measurement of it on that page, or 0000h
+-- before the first.
+unfoldable pub MeasuredBack : Type 0
+MeasuredBack =
+    (n : ℕ) (cs : List Call) (i q : ℕ) → supported n ≡ true → i < n → q < 4 → reached n cs .unpaged .page ≡ i
+    → Reads (reached n cs) (getD readCodes q 0) (lowFirst (latest (measures i q) measuredWord (powerOn n) cs 0))

@@ -1,0 +1,56 @@
+-- How many bytes are sent: the table's number of data bytes, and one more for the packet check.
+-- Assumes nothing.
+use Prim.Native.Nat.{ℕ, _+_, _≤_}
+use mathlib.Core.Path.{_≡_, refl, _∙_}
+use mathlib.Core.Bool.{Bool, true, false, cond}
+use mathlib.Core.List.{List, [], _∷_, _++_}
+use native.Mathlib.Omega.{arith}
+use lib.Dec.{eqb}
+use lib.ListN.{length, length-append}
+use Rattle.laws.proofs.Branches.{either}
+use Rattle.pec.specs.Pec.{pec}
+use Rattle.account.specs.Account.{einBytes}
+use Rattle.command.specs.Meaning.{commandOf}
+use Rattle.command.specs.Agreement.{rowOf}
+use Rattle.command.specs.declared.meaning.Command.{Command}
+use Rattle.command.specs.declared.meaning.Command.the-variants.{SelectPage, Operation, ClearFaults, WriteProtect, Capability, VoutMode, VoutCommand, Limit, Response, StatusByte, StatusWord, Status, StatusCml, ReadEin, Reading, Revision, Absent}
+use Rattle.page.specs.declared.Page.{Page}
+use Rattle.unpaged.specs.declared.Unpaged.{Unpaged}
+use Rattle.reads.specs.Answers.{answersData}
+use Rattle.reads.specs.Data.{readData, checked, readStream}
+use Rattle.reads.specs.Reply.{alertStream}
+
+-- the data bytes of a command are as many as its row says, at most seven
+module _ (u : Unpaged) (p : Page) where
+  pub data-length : (c : Command) → (length (readData u p c) ≡ rowOf 0 c .2) × (length (readData u p c) ≤ 7)
+  unfolding readData rowOf einBytes
+  data-length SelectPage = (refl, omega arith)
+  data-length Operation = (refl, omega arith)
+  data-length ClearFaults = (refl, omega arith)
+  data-length WriteProtect = (refl, omega arith)
+  data-length Capability = (refl, omega arith)
+  data-length VoutMode = (refl, omega arith)
+  data-length VoutCommand = (refl, omega arith)
+  data-length (Limit k) = (refl, omega arith)
+  data-length (Response k) = (refl, omega arith)
+  data-length StatusByte = (refl, omega arith)
+  data-length StatusWord = (refl, omega arith)
+  data-length (Status k) = (refl, omega arith)
+  data-length StatusCml = (refl, omega arith)
+  data-length ReadEin = (refl, omega arith)
+  data-length (Reading q) = (refl, omega arith)
+  data-length Revision = (refl, omega arith)
+  data-length Absent = (refl, omega arith)
+
+  pub stream-length : (answer code : ℕ) → length (readStream u p answer code) ≤ 8
+  unfolding readStream checked
+  stream-length answer code =
+      let l = readData u p (commandOf code) in
+      let short = data-length (commandOf code) .1 in
+      either (answersData answer)
+      (λ y. rw y (let e = length-append l (pec (0xC0 ∷ code ∷ 0xC1 ∷ l) ∷ []) in omega arith))
+      (λ n. rw n (omega arith))
+
+pub alert-length : (answer : ℕ) → length (alertStream answer) ≤ 8
+unfolding alertStream
+alert-length answer = either (eqb answer 0) (λ y. rw y (omega arith)) (λ n. rw n (omega arith))

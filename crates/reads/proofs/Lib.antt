@@ -1,0 +1,5 @@
+pub mod Fill
+pub mod Streams
+pub mod Lengths
+pub mod Applies
+pub mod Replies

@@ -1,0 +1,48 @@
+-- The data of a readable command, made from the state handed in, and what is sent of it.
+-- Assumes nothing.
+use Prim.Native.Nat.{ℕ, _%_, _/_}
+use mathlib.Core.Bool.{cond}
+use mathlib.Core.List.{List, [], _∷_, _++_}
+use lib.ListN.{getD}
+use Rattle.pec.specs.Pec.{pec}
+use Rattle.account.specs.Account.{einBytes}
+use Rattle.command.specs.Meaning.{commandOf}
+use Rattle.command.specs.declared.meaning.Command.{Command}
+use Rattle.command.specs.declared.meaning.Command.the-variants.{SelectPage, Operation, ClearFaults, WriteProtect, Capability, VoutMode, VoutCommand, Limit, Response, StatusByte, StatusWord, Status, StatusCml, ReadEin, Reading, Revision, Absent}
+use Rattle.page.specs.declared.Page.{Page}
+use Rattle.page.specs.Status.{statusByte, statusHigh, reading}
+use Rattle.unpaged.specs.declared.Unpaged.{Unpaged}
+use Rattle.reads.specs.Answers.{answersData}
+
+-- low byte first (data sheet 2.4)
+abbrev pub wordBytes : ℕ → List ℕ
+wordBytes w = w % 256 ∷ w / 256 ∷ []
+
+-- the data bytes of a command. CAPABILITY, VOUT_MODE and PMBUS_REVISION are constants (data sheet 3.3). The two cases that are not read have
+-- none.
+unfoldable pub readData : Unpaged → Page → Command → List ℕ
+readData u p SelectPage = u .page ∷ []
+readData u p Operation = p .operation ∷ []
+readData u p ClearFaults = []
+readData u p WriteProtect = u .protect ∷ []
+readData u p Capability = 0xB0 ∷ []
+readData u p VoutMode = 0x13 ∷ []
+readData u p VoutCommand = wordBytes (p .command)
+readData u p (Limit k) = wordBytes (getD (p .limits) (k % 6) 0)
+readData u p (Response k) = getD (p .responses) (k % 6) 0 ∷ []
+readData u p StatusByte = statusByte p (u .cml) ∷ []
+readData u p StatusWord = statusByte p (u .cml) ∷ statusHigh p ∷ []
+readData u p (Status k) = getD (p .status) (k % 4) 0 ∷ []
+readData u p StatusCml = u .cml ∷ []
+readData u p ReadEin = einBytes (u .energy)
+readData u p (Reading q) = wordBytes (reading p q)
+readData u p Revision = 0x22 ∷ []
+readData u p Absent = []
+
+-- data, then the packet check over header and data (data sheet 2.6)
+unfoldable pub checked : ℕ → List ℕ → List ℕ
+checked code bytes = bytes ++ (pec (0xC0 ∷ code ∷ 0xC1 ∷ bytes) ∷ [])
+
+-- what the device sends; a reply is the beginning of it, filled up with FFh (data sheet 2.9)
+unfoldable pub readStream : Unpaged → Page → ℕ → ℕ → List ℕ
+readStream u p answer code = cond (answersData answer) (checked code (readData u p (commandOf code))) []

@@ -1,0 +1,5 @@
+pub mod Answers
+pub mod Reply
+pub mod Data
+pub mod Applies
+pub mod Replies

@@ -1,5 +1,0 @@
-pub mod Unpaged
-pub mod Write
-pub mod Reply
-pub mod Read
-pub mod Events

@@ -1,0 +1,4 @@
+pub mod Unpaged
+pub mod Events
+pub mod Applies
+pub mod Refusals

@@ -1,0 +1,4 @@
+pub mod Asked
+pub mod Answers
+pub mod Left
+pub mod Applies

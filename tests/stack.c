@@ -1,0 +1,195 @@
+/* How much stack the calls take: each runs on a stack of its own that was painted, and the deepest byte that changed is looked for. Depth
+ * counts from the return address down, which a stand-in with the same arguments notes. Fails where a call takes more than the header says. */
+#define _XOPEN_SOURCE 700
+#include "tongsorrel.h"
+
+#include <stdio.h>
+#include <string.h>
+#include <ucontext.h>
+
+static unsigned char stack[1 << 16];
+static unsigned char *entry;
+static size_t deepest;
+
+static ucontext_t here, there;
+
+/* What a call is made of, outside of the painted stack. */
+static tongsorrel_device device;
+static tongsorrel_done done;
+static tongsorrel_taken taken;
+static tongsorrel_totalizer totalizer;
+static volatile bool on;
+static uint8_t bytes[16], reply[16], number, second;
+static size_t length, n;
+static uint16_t word;
+
+/* A frame pointer stands just below the return address. */
+#define NOTE() (entry = (unsigned char *)__builtin_frame_address(0) + 16)
+
+static tongsorrel_done no_write(tongsorrel_device d, const uint8_t *b, size_t l) {
+    (void)b, (void)l;
+    NOTE();
+    return (tongsorrel_done){d, 0};
+}
+
+static tongsorrel_done no_read(tongsorrel_device d, const uint8_t *h, size_t l, uint8_t *r, size_t k) {
+    (void)h, (void)l, (void)r, (void)k;
+    NOTE();
+    return (tongsorrel_done){d, 0};
+}
+
+static tongsorrel_done no_measure(tongsorrel_device d, uint8_t p, uint8_t q, uint16_t w) {
+    (void)p, (void)q, (void)w;
+    NOTE();
+    return (tongsorrel_done){d, 0};
+}
+
+static tongsorrel_done no_sample(tongsorrel_device d, uint16_t s) {
+    (void)s;
+    NOTE();
+    return (tongsorrel_done){d, 0};
+}
+
+static tongsorrel_done no_alert(tongsorrel_device d, uint8_t *r, size_t k) {
+    (void)r, (void)k;
+    NOTE();
+    return (tongsorrel_done){d, 0};
+}
+
+static bool no_supplies(tongsorrel_device d, uint8_t p) {
+    (void)d, (void)p;
+    NOTE();
+    return false;
+}
+
+static tongsorrel_taken no_take(tongsorrel_totalizer t, const uint8_t *r, size_t l) {
+    (void)r, (void)l;
+    NOTE();
+    return (tongsorrel_taken){t, 0};
+}
+
+static tongsorrel_device no_power_on(void) {
+    NOTE();
+    return device;
+}
+
+/* The function called, which the compiler may not look through. */
+static tongsorrel_done (*volatile write_call)(tongsorrel_device, const uint8_t *, size_t);
+static tongsorrel_done (*volatile read_call)(tongsorrel_device, const uint8_t *, size_t, uint8_t *, size_t);
+static tongsorrel_done (*volatile measure_call)(tongsorrel_device, uint8_t, uint8_t, uint16_t);
+static tongsorrel_done (*volatile sample_call)(tongsorrel_device, uint16_t);
+static tongsorrel_done (*volatile alert_call)(tongsorrel_device, uint8_t *, size_t);
+static bool (*volatile supplies_call)(tongsorrel_device, uint8_t);
+static tongsorrel_taken (*volatile take_call)(tongsorrel_totalizer, const uint8_t *, size_t);
+static tongsorrel_device (*volatile power_on_call)(void);
+
+static void run_write(void) { done = write_call(device, bytes, length); }
+static void run_read(void) { done = read_call(device, bytes, length, reply, n); }
+static void run_measure(void) { done = measure_call(device, number, second, word); }
+static void run_sample(void) { done = sample_call(device, word); }
+static void run_alert(void) { done = alert_call(device, reply, n); }
+static void run_supplies(void) { on = supplies_call(device, number); }
+static void run_take(void) { taken = take_call(totalizer, bytes, length); }
+static void run_power_on(void) { device = power_on_call(); }
+
+static void on_stack(void (*run)(void)) {
+    getcontext(&there);
+    there.uc_stack.ss_sp = stack;
+    there.uc_stack.ss_size = sizeof stack;
+    there.uc_link = &here;
+    makecontext(&there, run, 0);
+    swapcontext(&here, &there);
+}
+
+static void painted(void (*run)(void), unsigned char paint) {
+    memset(stack, paint, sizeof stack);
+    on_stack(run);
+    size_t low = 0;
+    while (stack[low] == paint) low++;
+    size_t depth = (size_t)(entry - (stack + low));
+    if (depth > deepest) deepest = depth;
+}
+
+/* Two colours, since a call may leave a byte of one of them. */
+#define DEPTH(call, stand_in, function, run) \
+    do {                                     \
+        call = stand_in;                     \
+        on_stack(run);                       \
+        call = function;                     \
+        painted(run, 0xA5);                  \
+        painted(run, 0x5A);                  \
+    } while (0)
+
+static size_t most;
+
+static void report(const char *name) {
+    printf("    %-28s %zu\n", name, deepest);
+    if (deepest > most) most = deepest;
+    deepest = 0;
+}
+
+enum { STATES = 3 };
+
+/* A device whose pages are on, measured and beyond their limits. */
+static tongsorrel_device busy(void) {
+    tongsorrel_device d = tongsorrel_power_on();
+    for (uint8_t p = 0; p < TONGSORREL_PAGES; p++) {
+        d.pages[p].operation = 0x80;
+        for (uint8_t q = 0; q < TONGSORREL_QUANTITIES; q++) d = tongsorrel_measure(d, p, q, 0x7BFF).device;
+    }
+    return d;
+}
+
+int main(void) {
+    tongsorrel_device states[STATES] = {tongsorrel_power_on(), busy(), busy()};
+    states[2].unpaged.protect = 0x01;
+    DEPTH(power_on_call, no_power_on, tongsorrel_power_on, run_power_on);
+    report("tongsorrel_power_on");
+    for (int s = 0; s < STATES; s++)
+        for (int code = 0; code < 256; code++)
+            for (length = 0; length < 7; length++) {
+                device = states[s];
+                bytes[0] = TONGSORREL_ADDRESS_WRITE, bytes[1] = (uint8_t)code;
+                bytes[2] = code == 0 ? 3 : 0x80, bytes[3] = 0x12;
+                if (length > 2) bytes[length - 1] = tongsorrel_pec(bytes, length - 1);
+                DEPTH(write_call, no_write, tongsorrel_write, run_write);
+            }
+    report("tongsorrel_write");
+    for (int s = 0; s < STATES; s++)
+        for (int code = 0; code < 256; code++)
+            for (n = 0; n < 11; n += 1 + (n > 3)) {
+                device = states[s], length = 3;
+                bytes[0] = TONGSORREL_ADDRESS_WRITE, bytes[1] = (uint8_t)code, bytes[2] = TONGSORREL_ADDRESS_READ;
+                DEPTH(read_call, no_read, tongsorrel_read, run_read);
+            }
+    report("tongsorrel_read");
+    for (int s = 0; s < STATES; s++)
+        for (number = 0; number < 9; number++) {
+            device = states[s], word = 0x7BFF;
+            for (second = 0; second < 5; second++) DEPTH(measure_call, no_measure, tongsorrel_measure, run_measure);
+            DEPTH(supplies_call, no_supplies, tongsorrel_supplies, run_supplies);
+        }
+    report("tongsorrel_measure, supplies");
+    for (int s = 0; s < STATES; s++) {
+        device = states[s];
+        word = 32767;
+        DEPTH(sample_call, no_sample, tongsorrel_sample, run_sample);
+        word = 32768;
+        DEPTH(sample_call, no_sample, tongsorrel_sample, run_sample);
+        for (n = 0; n < 3; n++) DEPTH(alert_call, no_alert, tongsorrel_alert_response, run_alert);
+    }
+    report("tongsorrel_sample, alert");
+    memset(bytes, 0, sizeof bytes);
+    bytes[0] = 6;
+    const uint8_t header[] = {TONGSORREL_ADDRESS_WRITE, TONGSORREL_CODE_READ_EIN, TONGSORREL_ADDRESS_READ};
+    bytes[7] = tongsorrel_pec_from(tongsorrel_pec(header, 3), bytes, 7);
+    totalizer = tongsorrel_totalizer_fresh();
+    for (int i = 0; i < 3; i++)
+        for (length = 7; length < 9; length++) {
+            DEPTH(take_call, no_take, tongsorrel_totalizer_take, run_take);
+            totalizer = taken.totalizer;
+        }
+    report("tongsorrel_totalizer_take");
+    printf("  C: a call takes at most %zu bytes of stack (%d said)\n", most, TONGSORREL_STACK);
+    return most > TONGSORREL_STACK;
+}
