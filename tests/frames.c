@@ -1,5 +1,5 @@
-/* The library from C: the nine frames of data sheet 13.7 through tongsorrel.h, the fields they leave, and an energy reply
- * through the totalizer. */
+/* The library from C: the nine frames of data sheet 13.7 through tongsorrel.h, the fields they leave, ones written to
+ * status registers, and an energy reply through the totalizer. */
 #include "tongsorrel.h"
 
 #include <stdio.h>
@@ -91,6 +91,31 @@ static void state(const tongsorrel_device *device) {
     expect(device->pages[7].limits[0] == 0x2A3D && device->pages[7].status[0] == 0 && !device->pages[7].tripped, "another page");
 }
 
+/* A write of one data byte, which is accepted. */
+static tongsorrel_device written(tongsorrel_device device, uint8_t code, uint8_t data) {
+    uint8_t bytes[] = {TONGSORREL_ADDRESS_WRITE, code, data};
+    tongsorrel_done done = tongsorrel_write(device, bytes, sizeof bytes);
+    expect(done.answer == TONGSORREL_DONE, "a status register is written");
+    return done.device;
+}
+
+/* Ones written to status registers (6.8, 8.3), under WRITE_PROTECT 80h; the alert had been answered. */
+static void clearings(tongsorrel_device device) {
+    device = written(device, TONGSORREL_CODE_WRITE_PROTECT, 0x80);
+    device = written(device, TONGSORREL_CODE_STATUS_VOUT, 0xFF);
+    expect(device.pages[0].status[0] == 0x80 && device.unpaged.alert, "a present cause has its bit and raises the alert");
+    device = tongsorrel_measure(device, 0, TONGSORREL_VOUT, 0).device;
+    device = written(device, TONGSORREL_CODE_STATUS_VOUT, 0x7F);
+    expect(device.pages[0].status[0] == 0x80 && device.unpaged.alert, "zeros spare");
+    device.unpaged.cml = 0xC2;
+    device = written(device, TONGSORREL_CODE_STATUS_VOUT, 0x80);
+    expect(device.pages[0].status[0] == 0 && device.unpaged.cml == 0xC2 && device.unpaged.alert, "a one clears, in its register alone");
+    device = written(device, TONGSORREL_CODE_STATUS_CML, 0x42);
+    expect(device.unpaged.cml == 0x80 && device.unpaged.alert, "STATUS_CML bit by bit");
+    device = written(device, TONGSORREL_CODE_STATUS_CML, 0x80);
+    expect(device.unpaged.cml == 0 && !device.unpaged.alert && device.pages[0].tripped, "with the last bit the alert falls, and the trip stays");
+}
+
 /* The start, and one more reply with two more samples. */
 static void totalizer(tongsorrel_device device) {
     static const uint8_t header[] = {0xC0, 0x86, 0xC1};
@@ -117,7 +142,8 @@ int main(void) {
     expect(tongsorrel_linear11_compare(0x0001, 0xF802) == TONGSORREL_EQUAL, "0001h equals F802h");
     tongsorrel_device device = frames(tongsorrel_power_on());
     state(&device);
+    clearings(device);
     totalizer(device);
-    if (failures == 0) printf("  C: the nine frames, the state they leave and the totalizer hold through tongsorrel.h\n");
+    if (failures == 0) printf("  C: the nine frames, the state they leave, clearings and the totalizer hold through tongsorrel.h\n");
     return failures != 0;
 }

@@ -17,7 +17,7 @@ fn bench_sheet_by_program() {
         (write(&[0xC0, 0x00]), 5),
         (write(&[0xC0, 0x00, 0x01, 0x00, 0x00]), 6),
         (write(&[0xC0, 0x47, 0x80]), 9),
-        (write(&[0xC0, 0x7A, 0x80]), 3),
+        (write(&[0xC0, 0x7A, 0x80]), 0),
         (Call::Sample(32767), 0),
         (Call::Sample(32768), 13),
         (read(0x79, 1), 10),

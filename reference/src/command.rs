@@ -1,4 +1,5 @@
-//! The thirty-two command codes (data sheet 3.1).
+//! The thirty-two command codes (data sheet 3.1). The status registers 7A to 7E are
+//! written too: ones clear.
 
 use Access::{Read, ReadWrite, Write};
 
@@ -56,11 +57,11 @@ pub const TABLE: [Command; 32] = [
     row(0x5A, ReadWrite, 1), // VIN_UV response
     row(0x78, Read, 1),      // STATUS_BYTE
     row(0x79, Read, 2),      // STATUS_WORD
-    row(0x7A, Read, 1),      // STATUS_VOUT
-    row(0x7B, Read, 1),      // STATUS_IOUT
-    row(0x7C, Read, 1),      // STATUS_INPUT
-    row(0x7D, Read, 1),      // STATUS_TEMPERATURE
-    row(0x7E, Read, 1),      // STATUS_CML
+    row(0x7A, ReadWrite, 1), // STATUS_VOUT
+    row(0x7B, ReadWrite, 1), // STATUS_IOUT
+    row(0x7C, ReadWrite, 1), // STATUS_INPUT
+    row(0x7D, ReadWrite, 1), // STATUS_TEMPERATURE
+    row(0x7E, ReadWrite, 1), // STATUS_CML
     row(0x86, Read, 7),      // READ_EIN
     row(0x88, Read, 2),      // READ_VIN
     row(0x8B, Read, 2),      // READ_VOUT

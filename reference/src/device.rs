@@ -124,14 +124,22 @@ fn data_valid(code: u8, data: &[u8]) -> bool {
     }
 }
 
+/// The two kinds of clearing: CLEAR_FAULTS and ones written to a status register.
+fn clears(code: u8) -> bool {
+    matches!(code, 0x03 | 0x7A..=0x7E)
+}
+
 /// Whether WRITE_PROTECT level `protect` permits a write of `code`.
-/// CLEAR_FAULTS and WRITE_PROTECT itself are always permitted.
+/// Clearings and WRITE_PROTECT itself are always permitted.
 fn permitted(protect: u8, code: u8) -> bool {
+    if clears(code) || code == 0x10 {
+        return true;
+    }
     match protect {
         0x00 => true,
-        0x20 => matches!(code, 0x10 | 0x03 | 0x01 | 0x00 | 0x21),
-        0x40 => matches!(code, 0x10 | 0x03 | 0x01 | 0x00),
-        _ => matches!(code, 0x10 | 0x03),
+        0x20 => matches!(code, 0x01 | 0x00 | 0x21),
+        0x40 => matches!(code, 0x01 | 0x00),
+        _ => false,
     }
 }
 
@@ -238,9 +246,15 @@ impl Page {
         }
     }
 
-    /// Carries out an accepted write of a paged command other than CLEAR_FAULTS.
+    /// Carries out an accepted write of a paged command. What it clears of a present
+    /// cause comes back when the page is brought up to date.
     fn store(&mut self, code: u8, data: &[u8]) {
-        if let Some(cause) = limit_of(code) {
+        if code == 0x03 {
+            self.status = [0; 4];
+        } else if (0x7A..=0x7D).contains(&code) {
+            // Each 1 clears its bit, each 0 spares it.
+            self.status[usize::from(code - 0x7A)] &= !data[0];
+        } else if let Some(cause) = limit_of(code) {
             self.limits[cause] = word(data);
         } else if let Some(cause) = response_of(code) {
             self.responses[cause] = data[0];
@@ -484,28 +498,26 @@ impl Device {
         }
     }
 
-    /// Carries out an accepted write. PAGE and WRITE_PROTECT touch no page; the
-    /// others bring the selected page up to date.
+    /// Carries out an accepted write. PAGE, WRITE_PROTECT and STATUS_CML touch no
+    /// page; the others bring the selected page up to date. After a clearing,
+    /// whatever it cleared, the alert is up exactly when any bit stands anywhere.
     fn carry_out(&mut self, command: &Command, data: &[u8]) {
-        let selected = usize::from(self.page);
         match command.code {
             0x00 => self.page = data[0],
             0x10 => self.protect = data[0],
-            0x03 => self.clear_faults(selected),
+            0x7E => self.cml &= !data[0],
             code => {
+                let selected = usize::from(self.page);
                 self.pages[selected].store(code, data);
                 self.bring_up_to_date(selected);
             }
         }
-    }
-
-    /// CLEAR_FAULTS: the page's four registers and CML fall, present causes set
-    /// again, and the alert is up exactly when any bit stands anywhere.
-    fn clear_faults(&mut self, page: usize) {
-        self.pages[page].status = [0; 4];
-        self.cml = 0;
-        self.bring_up_to_date(page);
-        self.alert = self.any_bit();
+        if command.code == 0x03 {
+            self.cml = 0;
+        }
+        if clears(command.code) {
+            self.alert = self.any_bit();
+        }
     }
 
     /// Whether a bit stands on some page or in CML (data sheet 8.3).

@@ -85,7 +85,7 @@ fn writes_by_program() {
         (&[0x00], 5),
         (&[0x00, 0x01, 0x00, 0x00], 6),
         (&[0x47, 0x80], 9),
-        (&[0x7A, 0x80], 3),
+        (&[0x7A, 0x80], 0),
     ] {
         assert_eq!(
             write(&mut Device::power_on(), bytes),

@@ -117,7 +117,7 @@ fn a_response_written_trips_in_that_call() {
 }
 
 #[test]
-fn a_bit_falls_only_by_clear_faults() {
+fn a_bit_falls_by_clear_faults() {
     let mut device = Device::power_on();
     device.measure(0, 0, 0xFFFF);
     device.measure(0, 0, 0x0000);
@@ -125,7 +125,7 @@ fn a_bit_falls_only_by_clear_faults() {
         write(&mut device, &[0x01, data]);
         assert_eq!(byte(&mut device, 0x7A), 0x80);
     }
-    assert_eq!(write(&mut device, &[0x7A, 0x80]), 3);
+    assert_eq!(write(&mut device, &[0x78, 0x80]), 3);
     assert_eq!(byte(&mut device, 0x7A), 0x80);
     assert_eq!(write(&mut device, &[0x03, 0x00]), 7);
     assert_eq!(write(&mut device, &[0x03, 0x00, 0x00]), 6);
@@ -211,9 +211,9 @@ fn not_supplying_shows_twice() {
 #[test]
 fn alert_rises_only_from_0_to_1() {
     let mut device = Device::power_on();
-    assert_eq!(write(&mut device, &[0x7A, 0x80]), 3);
+    assert_eq!(write(&mut device, &[0x78, 0x80]), 3);
     assert_eq!(alert(&mut device, 1).0, 0);
-    assert_eq!(write(&mut device, &[0x7A, 0x80]), 3);
+    assert_eq!(write(&mut device, &[0x78, 0x80]), 3);
     assert_eq!(alert(&mut device, 1).0, 14);
     device.measure(0, 0, 0xFFFF);
     assert_eq!(alert(&mut device, 1).0, 0);

@@ -6,7 +6,7 @@ use mathlib.Core.Bool.{Bool, false, _||_}
 use Rattle.laws.proofs.Every.{agree}
 use Rattle.command.specs.declared.table.Row.{Row}
 use Rattle.command.specs.declared.meaning.Command.{Command}
-use Rattle.command.specs.declared.meaning.Command.the-variants.{SelectPage, Operation, ClearFaults, WriteProtect, Capability, VoutMode, VoutCommand, Limit, Response, StatusByte, StatusWord, Status, StatusCml, ReadEin, Reading, Revision, Absent}
+use Rattle.command.specs.declared.meaning.Command.the-variants.{SelectPage, Operation, ClearFaults, WriteProtect, Capability, VoutMode, VoutCommand, Limit, Response, StatusByte, StatusWord, Status, ReadEin, Reading, Revision, Absent}
 use Rattle.command.specs.Table.{table, rowIn, lookup, entryOf}
 use Rattle.command.specs.Meaning.{commandOf, settingOf, faultOf, readingOf}
 use Rattle.command.specs.Agreement.{rowOf, TableAgrees}
@@ -43,7 +43,6 @@ unused c (Response k) h = cc
 unused c StatusByte h = cc
 unused c StatusWord h = cc
 unused c (Status k) h = cc
-unused c StatusCml h = cc
 unused c ReadEin h = cc
 unused c (Reading q) h = cc
 unused c Revision h = cc

@@ -8,7 +8,7 @@ use lib.Dec.{T, ltb, eqb, ltb→lt, eqb→eq}
 use Rattle.laws.proofs.Every.{both, both-left, both-right, each}
 use Rattle.cause.specs.Causes.{causes, limitOf, responseOf}
 use Rattle.command.specs.declared.meaning.Command.{Command}
-use Rattle.command.specs.declared.meaning.Command.the-variants.{SelectPage, Operation, ClearFaults, WriteProtect, Capability, VoutMode, VoutCommand, Limit, Response, StatusByte, StatusWord, Status, StatusCml, ReadEin, Reading, Revision, Absent}
+use Rattle.command.specs.declared.meaning.Command.the-variants.{SelectPage, Operation, ClearFaults, WriteProtect, Capability, VoutMode, VoutCommand, Limit, Response, StatusByte, StatusWord, Status, ReadEin, Reading, Revision, Absent}
 use Rattle.command.specs.Meaning.{commandOf, settingOf, faultOf, readingOf}
 use Rattle.command.specs.Causes.{LineMeant, CausesAgree}
 
@@ -36,7 +36,6 @@ inTable c VoutCommand = true
 inTable c StatusByte = true
 inTable c StatusWord = true
 inTable c (Status j) = true
-inTable c StatusCml = true
 inTable c ReadEin = true
 inTable c (Reading q) = true
 inTable c Revision = true

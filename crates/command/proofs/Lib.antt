@@ -1,3 +1,4 @@
 pub mod Scan
 pub mod Agreement
 pub mod Causes
+pub mod StatusCodes

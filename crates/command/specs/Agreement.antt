@@ -5,7 +5,7 @@ use mathlib.Core.Path.{_≡_}
 use mathlib.Core.Bool.{false, _||_}
 use Rattle.command.specs.declared.table.Row.{Row}
 use Rattle.command.specs.declared.meaning.Command.{Command}
-use Rattle.command.specs.declared.meaning.Command.the-variants.{SelectPage, Operation, ClearFaults, WriteProtect, Capability, VoutMode, VoutCommand, Limit, Response, StatusByte, StatusWord, Status, StatusCml, ReadEin, Reading, Revision, Absent}
+use Rattle.command.specs.declared.meaning.Command.the-variants.{SelectPage, Operation, ClearFaults, WriteProtect, Capability, VoutMode, VoutCommand, Limit, Response, StatusByte, StatusWord, Status, ReadEin, Reading, Revision, Absent}
 use Rattle.command.specs.Table.{table, rowIn, lookup, R, W, RW}
 use Rattle.command.specs.Meaning.{commandOf}
 
@@ -22,8 +22,7 @@ rowOf c (Limit k) = (c, RW, 2)
 rowOf c (Response k) = (c, RW, 1)
 rowOf c StatusByte = (c, R, 1)
 rowOf c StatusWord = (c, R, 2)
-rowOf c (Status k) = (c, R, 1)
-rowOf c StatusCml = (c, R, 1)
+rowOf c (Status k) = (c, RW, 1)
 rowOf c ReadEin = (c, R, 7)
 rowOf c (Reading q) = (c, R, 2)
 rowOf c Revision = (c, R, 1)

@@ -4,7 +4,7 @@ use Prim.Native.Nat.{ℕ, _-_}
 use mathlib.Core.Bool.{cond}
 use lib.Dec.{eqb, ltb}
 use Rattle.command.specs.declared.meaning.Command.{Command}
-use Rattle.command.specs.declared.meaning.Command.the-variants.{SelectPage, Operation, ClearFaults, WriteProtect, Capability, VoutMode, VoutCommand, Limit, Response, StatusByte, StatusWord, Status, StatusCml, ReadEin, Reading, Revision, Absent}
+use Rattle.command.specs.declared.meaning.Command.the-variants.{SelectPage, Operation, ClearFaults, WriteProtect, Capability, VoutMode, VoutCommand, Limit, Response, StatusByte, StatusWord, Status, ReadEin, Reading, Revision, Absent}
 
 -- 00h to 21h: page, operation, clearing, protection, constants, output voltage
 unfoldable pub settingOf : ℕ → Command
@@ -55,8 +55,7 @@ commandOf c =
     (cond (ltb c 0x78) Absent
     (cond (eqb c 0x78) StatusByte
     (cond (eqb c 0x79) StatusWord
-    (cond (ltb c 0x7E) (Status (c - 0x7A))
-    (cond (eqb c 0x7E) StatusCml
+    (cond (ltb c 0x7F) (Status (c - 0x7A))
     (cond (ltb c 0x86) Absent
     (cond (ltb c 0x99) (readingOf c)
-    Absent)))))))))
+    Absent))))))))

@@ -42,11 +42,11 @@ table =
     ∷ (0x5A, RW, 1)  -- VIN_UV_FAULT_RESPONSE
     ∷ (0x78, R, 1)  -- STATUS_BYTE
     ∷ (0x79, R, 2)  -- STATUS_WORD
-    ∷ (0x7A, R, 1)  -- STATUS_VOUT
-    ∷ (0x7B, R, 1)  -- STATUS_IOUT
-    ∷ (0x7C, R, 1)  -- STATUS_INPUT
-    ∷ (0x7D, R, 1)  -- STATUS_TEMPERATURE
-    ∷ (0x7E, R, 1)  -- STATUS_CML
+    ∷ (0x7A, RW, 1)  -- STATUS_VOUT
+    ∷ (0x7B, RW, 1)  -- STATUS_IOUT
+    ∷ (0x7C, RW, 1)  -- STATUS_INPUT
+    ∷ (0x7D, RW, 1)  -- STATUS_TEMPERATURE
+    ∷ (0x7E, RW, 1)  -- STATUS_CML
     ∷ (0x86, R, 7)  -- READ_EIN
     ∷ (0x88, R, 2)  -- READ_VIN
     ∷ (0x8B, R, 2)  -- READ_VOUT

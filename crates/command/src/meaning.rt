@@ -15,9 +15,8 @@ pub enum Command {
     Response(u8),
     StatusByte,
     StatusWord,
-    // a status register: 0 VOUT, 1 IOUT, 2 INPUT, 3 TEMPERATURE
+    // a status register, cleared by writing ones: 0 VOUT, 1 IOUT, 2 INPUT, 3 TEMPERATURE of a page, 4 CML
     Status(u8),
-    StatusCml,
     ReadEin,
     // the latest word of a quantity: 0 VOUT, 1 IOUT, 2 VIN, 3 temperature
     Reading(u8),
@@ -86,8 +85,7 @@ pub fn command_of(code: u8) -> Command
         0x40..=0x5A => fault_of(code),
         0x78 => Command::StatusByte,
         0x79 => Command::StatusWord,
-        0x7A..=0x7D => Command::Status(code - 0x7A),
-        0x7E => Command::StatusCml,
+        0x7A..=0x7E => Command::Status(code - 0x7A),
         0x86..=0x98 => reading_of(code),
         _ => Command::Absent,
     }

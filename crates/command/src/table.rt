@@ -34,11 +34,11 @@ const TABLE: [Row; 32] = [
     Row(0x5A, RW, 1), // VIN_UV_FAULT_RESPONSE
     Row(0x78, R, 1), // STATUS_BYTE
     Row(0x79, R, 2), // STATUS_WORD
-    Row(0x7A, R, 1), // STATUS_VOUT
-    Row(0x7B, R, 1), // STATUS_IOUT
-    Row(0x7C, R, 1), // STATUS_INPUT
-    Row(0x7D, R, 1), // STATUS_TEMPERATURE
-    Row(0x7E, R, 1), // STATUS_CML
+    Row(0x7A, RW, 1), // STATUS_VOUT
+    Row(0x7B, RW, 1), // STATUS_IOUT
+    Row(0x7C, RW, 1), // STATUS_INPUT
+    Row(0x7D, RW, 1), // STATUS_TEMPERATURE
+    Row(0x7E, RW, 1), // STATUS_CML
     Row(0x86, R, 7), // READ_EIN
     Row(0x88, R, 2), // READ_VIN
     Row(0x8B, R, 2), // READ_VOUT

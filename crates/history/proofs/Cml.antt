@@ -32,6 +32,7 @@ write-bit (Write.SelectPage x) u k = sym (and-true (bit (u .cml) k))
 write-bit (Write.Protect x) u k = sym (and-true (bit (u .cml) k))
 write-bit (Write.Change s) u k = sym (and-true (bit (u .cml) k))
 write-bit (Write.Clear m) u k = without-bit (u .cml) (m .cml) k
+write-bit (Write.ClearCml m) u k = without-bit (u .cml) m k
 
 no-bits : (k : ℕ) → bit (cmlBits 0) k ≡ false
 unfolding cmlBits

@@ -1,19 +1,25 @@
 -- What a write of each code clears and untrips, and that a response's number is below 6: what `commandOf` and `writeOf` say of every code.
 -- Assumes nothing.
-use Prim.Native.Nat.{ℕ, _<_}
-use mathlib.Core.Path.{_≡_, ap}
-use mathlib.Core.Bool.{Bool, true, false, _||_}
+use Prim.Native.Nat.{ℕ, zero, suc, _+_, _-_, _<_, _≤_}
+use mathlib.Core.Path.{_≡_, refl, sym, ap, _∙_}
+use mathlib.Core.Bool.{Bool, true, false, _&&_, _||_, or-false, or-true, false≢true}
 use mathlib.Core.List.{[], _∷_}
 use lib.Dec.{ltb, eqb}
 use lib.ListN.{getD}
-use borrow.Author.Tests.{eqb-true}
+use native.Mathlib.Omega.{arith}
+use borrow.Author.Tests.{eqb-true, eqb-false, eq-eqb, ne-eqb, le-leb}
 use Rattle.laws.specs.Bits.{bit}
 use Rattle.laws.proofs.Branches.{either, cond-same, cond-apply}
+use Rattle.laws.proofs.Bits.{cond-bit, zero-bit}
 use Rattle.laws.proofs.Every.{agree}
+use Rattle.command.specs.declared.meaning.Command.{Command}
+use Rattle.command.specs.declared.meaning.Command.the-variants.{Status}
 use Rattle.command.specs.Meaning.{commandOf, settingOf, faultOf, readingOf}
+use Rattle.command.proofs.StatusCodes.{isStatus, otherOf, status-bounds, status-command, other-command}
+use Rattle.page.specs.Causes.{weigh}
 use Rattle.writes.specs.declared.asked.Setting.{Setting}
 use Rattle.writes.specs.declared.asked.Write.{Write}
-use Rattle.writes.specs.Asked.{pageMasks, clearFaults, writeOf}
+use Rattle.writes.specs.Asked.{pageMasks, clearFaults, registerMasks, clearStatus, writeOf}
 use Rattle.writes.specs.Left.{clearing}
 use Rattle.history.specs.Clearing.{clearsPage, clearsStatusCml, reworksAlert}
 use Rattle.history.specs.Tripping.{untripping}
@@ -25,6 +31,7 @@ clearedBit (Write.SelectPage x) j k = false
 clearedBit (Write.Protect x) j k = false
 clearedBit (Write.Change s) j k = false
 clearedBit (Write.Clear m) j k = bit (getD (pageMasks m) j 0) k
+clearedBit (Write.ClearCml m) j k = false
 
 abbrev pub clearedCml : Write → ℕ → Bool
 clearedCml Write.Nothing k = false
@@ -32,6 +39,7 @@ clearedCml (Write.SelectPage x) k = false
 clearedCml (Write.Protect x) k = false
 clearedCml (Write.Change s) k = false
 clearedCml (Write.Clear m) k = bit (m .cml) k
+clearedCml (Write.ClearCml m) k = bit m k
 
 -- that it untrips,
 abbrev pub switchesOff : Setting → Bool
@@ -46,6 +54,7 @@ untripsBy (Write.SelectPage x) = false
 untripsBy (Write.Protect x) = false
 untripsBy (Write.Change s) = switchesOff s
 untripsBy (Write.Clear m) = false
+untripsBy (Write.ClearCml m) = false
 
 -- and that a response which it sets is one of six
 abbrev pub smallSetting : Setting → Bool
@@ -60,35 +69,94 @@ smallResponse (Write.SelectPage x) = true
 smallResponse (Write.Protect x) = true
 smallResponse (Write.Change s) = smallSetting s
 smallResponse (Write.Clear m) = true
+smallResponse (Write.ClearCml m) = true
 
 -- the masks of CLEAR_FAULTS
 every-register : (j : ℕ) → j < 4 → _≡_ {A = ℕ} (getD (255 ∷ 255 ∷ 255 ∷ 255 ∷ []) j 0) 255
 every-register j h = agree (λ j. getD (255 ∷ 255 ∷ 255 ∷ 255 ∷ []) j 0) (λ j. 255) 4 tt j h
 
+-- the masks of a status register: the one with the place m alone
+register-mask : (m x j : ℕ) → j < 4 → getD (pageMasks (registerMasks m x)) j 0 ≡ weigh (eqb m j) x
+unfolding registerMasks
+register-mask m x zero h = refl
+register-mask m x (suc zero) h = refl
+register-mask m x (suc (suc zero)) h = refl
+register-mask m x (suc (suc (suc zero))) h = refl
+register-mask m x (suc (suc (suc (suc j)))) h = absurd (omega arith)
+
+weighed-bit : (b : Bool) (x k : ℕ) → bit (weigh b x) k ≡ (b && bit x k)
+unfolding weigh
+weighed-bit b x k = cond-bit b x k
+
+-- a write to the status register at place m
+module _ (m x : ℕ) where
+  status-bit : (j k : ℕ) → j < 4 → clearedBit (clearStatus m x) j k ≡ (eqb m j && bit x k)
+  unfolding clearStatus
+  status-bit j k h =
+      either (eqb m 4)
+      (λ y. let e = eqb-true m 4 y in rw (y, ne-eqb m j (λ z. omega arith)))
+      (λ n. rw n (ap (λ (b : ℕ). bit b k) (register-mask m x j h) ∙ weighed-bit (eqb m j) x k))
+
+  status-cml : (k : ℕ) → clearedCml (clearStatus m x) k ≡ (eqb m 4 && bit x k)
+  unfolding clearStatus registerMasks
+  status-cml k = either (eqb m 4) (λ y. rw y) (λ n. rw n (zero-bit k))
+
+  status-kind : (clearing (clearStatus m x) ≡ true) × (untripsBy (clearStatus m x) ≡ false) × (smallResponse (clearStatus m x) ≡ true)
+  unfolding clearStatus clearing
+  status-kind = either (eqb m 4) (λ y. rw y (refl, refl, refl)) (λ n. rw n (refl, refl, refl))
+
+-- the place of a code from 7Ah on
+place : (code j : ℕ) → 0x7A ≤ code → eqb (code - 0x7A) j ≡ eqb code (0x7A + j)
+place code j h =
+    either (eqb code (0x7A + j))
+    (λ y. let e = eqb-true code (0x7A + j) y in eq-eqb (code - 0x7A) j (omega arith) ∙ sym y)
+    (λ n. let e = eqb-false code (0x7A + j) n in ne-eqb (code - 0x7A) j (λ z. omega arith) ∙ sym n)
+
 module _ (code x w : ℕ) where
+  -- a fact of a code is one of the status registers 7Ah to 7Eh, or one of every other code
+  by-register : (F : Command → Bool) (r : Bool) → (isStatus code ≡ true → F (Status (code - 0x7A)) ≡ r) → (isStatus code ≡ false → F (otherOf code) ≡ r)
+      → F (commandOf code) ≡ r
+  by-register F r f g =
+      either (isStatus code) (λ y. ap F (status-command code y) ∙ f y) (λ n. ap F (other-command code n) ∙ g n)
+
   pub cleared-code : (j k : ℕ) → j < 4 → clearedBit (writeOf (commandOf code) x w) j k ≡ clearsPage code x j k
-  unfolding commandOf settingOf faultOf readingOf writeOf clearFaults clearsPage
+  unfolding otherOf settingOf faultOf readingOf writeOf clearFaults clearsPage
   cleared-code j k h =
-      either (eqb code 0x03) (λ e. rw (eqb-true code 0x03 e) (ap (λ (m : ℕ). bit m k) (every-register j h)))
-      (λ e. rw e (simp (e, cond-apply (λ c. clearedBit (writeOf c x w) j k), cond-same)))
+      by-register (λ c. clearedBit (writeOf c x w) j k) (clearsPage code x j k)
+      (λ y. let b = status-bounds code y in
+      status-bit (code - 0x7A) x j k h ∙ rw (place code j (b .0), ne-eqb code 0x03 (λ e. omega arith)))
+      (λ n. either (eqb code 0x03)
+      (λ e. let same = eqb-true code 0x03 e in
+      rw (same, ne-eqb 0x03 (0x7A + j) (λ z. omega arith)) (ap (λ (m : ℕ). bit m k) (every-register j h) ∙ sym (or-false (bit 0xFF k))))
+      (λ e. rw (e, ne-eqb code (0x7A + j) (not-status n j h)) (simp (e, cond-apply (λ c. clearedBit (writeOf c x w) j k), cond-same))))
+    where
+      not-status : isStatus code ≡ false → (j : ℕ) → j < 4 → code ≡ 0x7A + j → ⊥
+      not-status n j h e = false≢true (sym n ∙ rw (le-leb 0x7A code (omega arith), le-leb code 0x7E (omega arith)))
 
   pub cleared-cml-code : (k : ℕ) → clearedCml (writeOf (commandOf code) x w) k ≡ clearsStatusCml code x k
-  unfolding commandOf settingOf faultOf readingOf writeOf clearFaults clearsStatusCml
+  unfolding otherOf settingOf faultOf readingOf writeOf clearFaults clearsStatusCml
   cleared-cml-code k =
-      either (eqb code 0x03) (λ e. rw (eqb-true code 0x03 e))
-      (λ e. rw e (simp (e, cond-apply (λ c. clearedCml (writeOf c x w) k), cond-same)))
+      by-register (λ c. clearedCml (writeOf c x w) k) (clearsStatusCml code x k)
+      (λ y. let b = status-bounds code y in
+      status-cml (code - 0x7A) x k ∙ rw (place code 4 (b .0), ne-eqb code 0x03 (λ e. omega arith)))
+      (λ n. either (eqb code 0x03) (λ e. rw (eqb-true code 0x03 e) (sym (or-false (bit 0xFF k))))
+      (λ e. rw (e, ne-eqb code 0x7E (λ z. false≢true (sym n ∙ rw z))) (simp (e, cond-apply (λ c. clearedCml (writeOf c x w) k), cond-same))))
 
   pub clearing-code : clearing (writeOf (commandOf code) x w) ≡ reworksAlert code
-  unfolding commandOf settingOf faultOf readingOf writeOf clearFaults reworksAlert clearing
+  unfolding otherOf settingOf faultOf readingOf writeOf clearFaults reworksAlert clearing
   clearing-code =
-      either (eqb code 0x03) (λ e. rw (eqb-true code 0x03 e))
-      (λ e. rw e (simp (e, cond-apply (λ c. clearing (writeOf c x w)), cond-same)))
+      by-register (λ c. clearing (writeOf c x w)) (reworksAlert code) (λ y. status-kind (code - 0x7A) x .0 ∙ rw (y, or-true (eqb code 0x03)))
+      (λ n. either (eqb code 0x03) (λ e. rw (eqb-true code 0x03 e))
+      (λ e. rw (e, n) (simp (e, cond-apply (λ c. clearing (writeOf c x w)), cond-same))))
 
   pub untripping-code : untripsBy (writeOf (commandOf code) x w) ≡ untripping code x
-  unfolding commandOf settingOf faultOf readingOf writeOf clearFaults
+  unfolding otherOf settingOf faultOf readingOf writeOf clearFaults
   untripping-code =
-      either (eqb code 0x01) (λ e. rw (eqb-true code 0x01 e)) (λ e. simp (e, cond-apply (λ c. untripsBy (writeOf c x w)), cond-same))
+      by-register (λ c. untripsBy (writeOf c x w)) (untripping code x)
+      (λ y. let b = status-bounds code y in status-kind (code - 0x7A) x .1 ∙ rw (ne-eqb code 0x01 (λ e. omega arith)))
+      (λ n. either (eqb code 0x01) (λ e. rw (eqb-true code 0x01 e)) (λ e. simp (e, cond-apply (λ c. untripsBy (writeOf c x w)), cond-same)))
 
   pub response-code : smallResponse (writeOf (commandOf code) x w) ≡ true
-  unfolding commandOf settingOf faultOf readingOf writeOf clearFaults
-  response-code = simp (cond-apply (λ c. smallResponse (writeOf c x w)), cond-same)
+  unfolding otherOf settingOf faultOf readingOf writeOf clearFaults
+  response-code =
+      by-register (λ c. smallResponse (writeOf c x w)) true (λ y. status-kind (code - 0x7A) x .2) (λ n. simp (cond-apply (λ c. smallResponse (writeOf c x w)), cond-same))

@@ -22,7 +22,7 @@ use Rattle.unpaged.specs.Unpaged.{actsOn}
 use Rattle.unpaged.specs.Events.{measureAnswer}
 use Rattle.writes.specs.declared.asked.Setting.{Setting}
 use Rattle.writes.specs.declared.asked.Write.{Write}
-use Rattle.writes.specs.Asked.{clearFaults, writeOf, wordOf, asked}
+use Rattle.writes.specs.Asked.{clearFaults, writeOf, wordOf, asked, clearStatus}
 use Rattle.writes.specs.Left.{applied, changed, cleared, pageLeft, unpagedLeft, clearing}
 use Rattle.device.specs.declared.Device.{Device}
 use Rattle.device.specs.Device.{pageOf, alertRisen, alertStanding}
@@ -111,6 +111,7 @@ left-reading (Write.SelectPage x) p q = refl
 left-reading (Write.Protect x) p q = refl
 left-reading (Write.Change s) p q = settled-reading (applied s p) q ∙ applied-reading s p q
 left-reading (Write.Clear m) p q = settled-reading _ q
+left-reading (Write.ClearCml m) p q = refl
 
 -- the pages of a write, each by itself
 pub written-page-at : (d : Device) (w : Write) (i : ℕ) → i < length (d .pages)
@@ -135,19 +136,29 @@ module _ (d : Device) (w : Write) where
   unfolding written alertStanding alertRisen
   written-protect = either (clearing w) (λ e. rw e) (λ e. rw e)
 
+-- a write to a status register leaves PAGE and WRITE_PROTECT alone
+module _ (u : Unpaged) (m x : ℕ) where
+  status-page : unpagedLeft (clearStatus m x) u .page ≡ u .page
+  unfolding unpagedLeft clearStatus
+  status-page = either (eqb m 4) (λ y. rw y) (λ n. rw n)
+
+  status-protect : unpagedLeft (clearStatus m x) u .protect ≡ u .protect
+  unfolding unpagedLeft clearStatus
+  status-protect = either (eqb m 4) (λ y. rw y) (λ n. rw n)
+
 -- PAGE and WRITE_PROTECT after a write of each code
 module _ (u : Unpaged) (code x w : ℕ) where
   pub page-code : unpagedLeft (writeOf (commandOf code) x w) u .page ≡ cond (eqb code 0x00) x (u .page)
   unfolding commandOf settingOf faultOf readingOf writeOf clearFaults unpagedLeft
   page-code =
       either (eqb code 0x00) (λ e. rw (eqb-true code 0x00 e))
-      (λ e. simp (e, cond-apply (λ c. unpagedLeft (writeOf c x w) u .page), cond-same))
+      (λ e. simp (e, cond-apply (λ c. unpagedLeft (writeOf c x w) u .page), status-page u, cond-same))
 
   pub protect-code : unpagedLeft (writeOf (commandOf code) x w) u .protect ≡ cond (eqb code 0x10) x (u .protect)
   unfolding commandOf settingOf faultOf readingOf writeOf clearFaults unpagedLeft
   protect-code =
       either (eqb code 0x10) (λ e. rw (eqb-true code 0x10 e))
-      (λ e. simp (e, cond-apply (λ c. unpagedLeft (writeOf c x w) u .protect), cond-same))
+      (λ e. simp (e, cond-apply (λ c. unpagedLeft (writeOf c x w) u .protect), status-protect u, cond-same))
 
 module _ (d : Device) (s : List ℕ) (z : answer d (write s) ≡ 0) where
   pub page-after-write : next d (write s) .unpaged .page ≡ cond (eqb (codeOf s) 0x00) (getD s 2 0) (d .unpaged .page)

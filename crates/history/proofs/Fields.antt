@@ -23,7 +23,7 @@ use Rattle.page.specs.Settings.{setMeasurement, setOperation, setVoutCommand, s
 use Rattle.page.specs.Status.{reading}
 use Rattle.writes.specs.declared.asked.Setting.{Setting}
 use Rattle.writes.specs.declared.asked.Write.{Write}
-use Rattle.writes.specs.Asked.{clearFaults, writeOf}
+use Rattle.writes.specs.Asked.{clearFaults, writeOf, clearStatus}
 use Rattle.writes.specs.Left.{applied, changed, cleared, pageLeft}
 
 -- ---- lengths
@@ -80,6 +80,7 @@ left-sized p z (Write.SelectPage x) = z
 left-sized p z (Write.Protect x) = z
 left-sized p z (Write.Change s) = settled-sized (applied s p) (applied-sized p z s)
 left-sized p z (Write.Clear m) = cleared-sized p z _
+left-sized p z (Write.ClearCml m) = z
 
 -- ---- settings, by the written code
 
@@ -93,6 +94,7 @@ limitNumber (Write.Change (Setting.VoutCommand w)) = 6
 limitNumber (Write.Change (Setting.Limit k w)) = k % 6
 limitNumber (Write.Change (Setting.Response k x)) = 6
 limitNumber (Write.Clear m) = 6
+limitNumber (Write.ClearCml m) = 6
 
 abbrev responseNumber : Write → ℕ
 responseNumber Write.Nothing = 6
@@ -103,6 +105,7 @@ responseNumber (Write.Change (Setting.VoutCommand w)) = 6
 responseNumber (Write.Change (Setting.Limit k w)) = 6
 responseNumber (Write.Change (Setting.Response k x)) = k % 6
 responseNumber (Write.Clear m) = 6
+responseNumber (Write.ClearCml m) = 6
 
 module _ (p : Page) (z : Sized p) (k : ℕ) (small : k < 6) where
   -- a write that sets no other limit than k leaves it; so with responses
@@ -117,6 +120,7 @@ module _ (p : Page) (z : Sized p) (k : ℕ) (small : k < 6) where
       let other = eqb-false (j % 6) k n in getD-set-other (p .limits) (j % 6) k w 0 (λ e. other (sym e))
   other-limit (Write.Change (Setting.Response j x)) n = refl
   other-limit (Write.Clear m) n = refl
+  other-limit (Write.ClearCml m) n = refl
 
   other-response : (w : Write) → eqb (responseNumber w) k ≡ false → getD (pageLeft w p .responses) k 0 ≡ getD (p .responses) k 0
   unfolding pageLeft changed cleared settled clearBits applied setOperation setVoutCommand setLimit setResponse
@@ -129,6 +133,7 @@ module _ (p : Page) (z : Sized p) (k : ℕ) (small : k < 6) where
   other-response (Write.Change (Setting.Response j x)) n =
       let other = eqb-false (j % 6) k n in getD-set-other (p .responses) (j % 6) k x 0 (λ e. other (sym e))
   other-response (Write.Clear m) n = refl
+  other-response (Write.ClearCml m) n = refl
 
   -- limit k and response k, set
   own-limit : (w : ℕ) → getD (pageLeft (Write.Change (Setting.Limit k w)) p .limits) k 0 ≡ w
@@ -147,16 +152,26 @@ module _ (p : Page) (z : Sized p) (k : ℕ) (small : k < 6) where
 
 -- by computation at each code
 limit-number : (x w k c : ℕ) → k < 6 → c < 256 → eqb (limitNumber (writeOf (commandOf c) x w)) k ≡ eqb c (limitOf k .limitCode)
-unfolding commandOf settingOf faultOf readingOf writeOf clearFaults causes
+unfolding commandOf settingOf faultOf readingOf writeOf clearFaults clearStatus causes
 limit-number x w k c hk hc =
     agree-test (λ c. eqb (limitNumber (writeOf (commandOf c) x w)) k) (λ c. eqb c (limitOf k .limitCode)) 256
     (each (λ k. below (λ c. Bool·beq (eqb (limitNumber (writeOf (commandOf c) x w)) k) (eqb c (limitOf k .limitCode))) 256) 6 tt k hk) c hc
 
 response-number : (x w k c : ℕ) → k < 6 → c < 256 → eqb (responseNumber (writeOf (commandOf c) x w)) k ≡ eqb c (responseOf k .responseCode)
-unfolding commandOf settingOf faultOf readingOf writeOf clearFaults causes
+unfolding commandOf settingOf faultOf readingOf writeOf clearFaults clearStatus causes
 response-number x w k c hk hc =
     agree-test (λ c. eqb (responseNumber (writeOf (commandOf c) x w)) k) (λ c. eqb c (responseOf k .responseCode)) 256
     (each (λ k. below (λ c. Bool·beq (eqb (responseNumber (writeOf (commandOf c) x w)) k) (eqb c (responseOf k .responseCode))) 256) 6 tt k hk) c hc
+
+-- a write to a status register leaves the settings alone
+module _ (p : Page) (m x : ℕ) where
+  status-operation : pageLeft (clearStatus m x) p .operation ≡ p .operation
+  unfolding pageLeft cleared settled clearBits clearStatus
+  status-operation = either (eqb m 4) (λ y. rw y) (λ n. rw n)
+
+  status-command : pageLeft (clearStatus m x) p .command ≡ p .command
+  unfolding pageLeft cleared settled clearBits clearStatus
+  status-command = either (eqb m 4) (λ y. rw y) (λ n. rw n)
 
 module _ (code x w : ℕ) where
   abbrev after : Page → Page
@@ -165,12 +180,12 @@ module _ (code x w : ℕ) where
   pub operation-code : (p : Page) → after p .operation ≡ cond (eqb code 0x01) x (p .operation)
   unfolding commandOf settingOf faultOf readingOf writeOf clearFaults pageLeft changed cleared settled clearBits applied setOperation setVoutCommand setLimit setResponse
   operation-code p =
-      either (eqb code 0x01) (λ y. rw (eqb-true code 0x01 y)) (λ n. simp (n, cond-apply (λ c. pageLeft (writeOf c x w) p .operation), cond-same))
+      either (eqb code 0x01) (λ y. rw (eqb-true code 0x01 y)) (λ n. simp (n, cond-apply (λ c. pageLeft (writeOf c x w) p .operation), status-operation p, cond-same))
 
   pub command-code : (p : Page) → after p .command ≡ cond (eqb code 0x21) w (p .command)
   unfolding commandOf settingOf faultOf readingOf writeOf clearFaults pageLeft changed cleared settled clearBits applied setOperation setVoutCommand setLimit setResponse
   command-code p =
-      either (eqb code 0x21) (λ y. rw (eqb-true code 0x21 y)) (λ n. simp (n, cond-apply (λ c. pageLeft (writeOf c x w) p .command), cond-same))
+      either (eqb code 0x21) (λ y. rw (eqb-true code 0x21 y)) (λ n. simp (n, cond-apply (λ c. pageLeft (writeOf c x w) p .command), status-command p, cond-same))
 
   pub limit-code : (p : Page) → Sized p → (k : ℕ) → k < 6 → code < 256
       → getD (after p .limits) k 0 ≡ cond (eqb code (limitOf k .limitCode)) w (getD (p .limits) k 0)

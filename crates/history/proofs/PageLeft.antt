@@ -56,6 +56,7 @@ module _ (p : Page) where
   written-page (Write.SelectPage x) = kept refl (λ j k h. refl) refl
   written-page (Write.Protect x) = kept refl (λ j k h. refl) refl
   written-page (Write.Change s) = touched (applied s p) refl (changed-setting s)
+  written-page (Write.ClearCml m) = kept refl (λ j k h. refl) refl
   written-page (Write.Clear m) = touched (clearBits p (pageMasks m)) refl (cleared-bits (pageMasks m))
 
   pub measured-page : (quantity word : ℕ) → PageLeft p (settled (setMeasurement p quantity word)) (λ j k. false) false

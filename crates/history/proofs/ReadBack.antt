@@ -2,11 +2,11 @@
 -- Assumes nothing.
 use Prim.Native.Nat.{ℕ, zero, suc, _<_, _+_}
 use mathlib.Core.Path.{_≡_, refl, sym, ap, _∙_}
-use mathlib.Core.Bool.{Bool, true, false, cond, _&&_, _||_, or-true, false≢true}
+use mathlib.Core.Bool.{Bool, true, false, cond, not, _&&_, _||_, or-true, false≢true}
 use mathlib.Core.List.{List, [], _∷_, map}
 use native.Mathlib.Nat.{not-suc-le-zero, le-of-suc-le-suc}
 use native.Mathlib.Omega.{arith}
-use lib.Dec.{eqb, ltb, ltb→lt}
+use lib.Dec.{eqb, ltb, leb, ltb→lt}
 use lib.ListN.{length, getD, replicate}
 use borrow.Author.Tests.{eqb-true, eq-eqb, le-ltb}
 use Rattle.laws.specs.Lists.{Bytes, anyOf}
@@ -137,7 +137,7 @@ module _ (n : ℕ) (cs : List Call) (i : ℕ) (small : i < n) where
 pub stored-codes : StoredCodes
 unfolding StoredCodes lookup table entryOf
 stored-codes c h =
-    agree-test (λ c. lookup c .written && lookup c .read) (λ c. anyOf (eqb c) (map (λ r. r .0) stored)) 256 tt c h
+    agree-test (λ c. lookup c .written && lookup c .read && not (leb 0x7A c && leb c 0x7E)) (λ c. anyOf (eqb c) (map (λ r. r .0) stored)) 256 tt c h
 
 module _ (m : ℕ) (h : m < length stored) where
   stored-byte : storedAt m .0 < 256

@@ -73,6 +73,7 @@ module _ (p : Page) (v : pageValid p ≡ true) where
   page-valid n (Write.SelectPage x) e small = v
   page-valid n (Write.Protect x) e small = v
   page-valid n (Write.Change s) e small = settled-valid (applied s p) ∙ setting-valid s e small
+  page-valid n (Write.ClearCml m) e small = v
   page-valid n (Write.Clear m) e small = settled-valid _ ∙ clear-valid p (pageMasks m) ∙ v
 
 module _ (d : Device) (v : Valid d) where
@@ -86,6 +87,7 @@ module _ (d : Device) (v : Valid d) where
   unpaged-valid (Write.Protect x) e = rw (v .page, e, v .energy)
   unpaged-valid (Write.Change s) e = rw (v .page, v .protect, v .energy)
   unpaged-valid (Write.Clear m) e = rw (v .page, v .protect, v .energy)
+  unpaged-valid (Write.ClearCml m) e = rw (v .page, v .protect, v .energy)
 
 -- a state with the same number of pages, and both parts valid
 made-valid : (d e : Device) → Valid d → length (e .pages) ≡ length (d .pages) → unpagedValid (length (d .pages)) (e .unpaged) ≡ true

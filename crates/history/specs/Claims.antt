@@ -39,7 +39,7 @@ pub record Claims : Type 0 where
   -- and then it takes effect
   pub takes-effect : TakesEffect
   -- ---- what is read back (ReadBack.antt; data sheet 3.4, 5.7)
-  -- the codes that keep what is written to them are all that the table has as written and read
+  -- the codes that keep what is written to them are all that the table has as written and read, but the status registers
   pub stored-codes : StoredCodes
   -- after every run such a code reads as its latest accepted write, on that page, or as power-on left it
   pub written-back : WrittenBack

@@ -1,10 +1,10 @@
 -- The clearings of status bits, and that a bit falls by nothing else (data sheet 6.5, 6.9).
 -- Assumes nothing.
-use Prim.Native.Nat.{ℕ, _<_}
+use Prim.Native.Nat.{ℕ, _+_, _<_}
 use mathlib.Core.Path.{_≡_}
-use mathlib.Core.Bool.{Bool, true, false, _&&_}
+use mathlib.Core.Bool.{Bool, true, false, _&&_, _||_}
 use lib.ListN.{length, getD}
-use lib.Dec.{eqb}
+use lib.Dec.{leb, eqb}
 use Rattle.laws.specs.Bits.{bit}
 use Rattle.page.specs.Latching.{statusBit}
 use Rattle.unpaged.specs.Unpaged.{actsOn}
@@ -13,18 +13,18 @@ use Rattle.device.specs.Device.{pageOf}
 use Rattle.device.specs.Step.{Call, write, read, measure, sample, alertResponse}
 use Rattle.history.specs.Run.{next, answer, cmlBit}
 
--- The one clearing, by code and first data byte x: CLEAR_FAULTS. In three separate meanings: the bits k of register j that fall on each page
--- acted on,
+-- The two clearings, by code and first data byte x: CLEAR_FAULTS, and ones written to a status register. In three separate meanings: the
+-- bits k of register j that fall on each page acted on,
 unfoldable pub clearsPage : ℕ → ℕ → ℕ → ℕ → Bool
-clearsPage code x j k = eqb code 0x03 && bit 0xFF k
+clearsPage code x j k = eqb code 0x03 && bit 0xFF k || eqb code (0x7A + j) && bit x k
 
 -- the bits k of STATUS_CML that fall,
 unfoldable pub clearsStatusCml : ℕ → ℕ → ℕ → Bool
-clearsStatusCml code x k = eqb code 0x03 && bit 0xFF k
+clearsStatusCml code x k = eqb code 0x03 && bit 0xFF k || eqb code 0x7E && bit x k
 
 -- and whether the alert is worked out anew
 unfoldable pub reworksAlert : ℕ → Bool
-reworksAlert code = eqb code 0x03
+reworksAlert code = eqb code 0x03 || leb 0x7A code && leb code 0x7E
 
 -- c is an accepted write whose code and first data byte pass a test
 unfoldable pub acceptedWrite : Device → Call → (ℕ → ℕ → Bool) → Bool

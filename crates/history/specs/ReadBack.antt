@@ -3,9 +3,9 @@
 -- Assumes nothing.
 use Prim.Native.Nat.{ℕ, _<_, _/_, _%_}
 use mathlib.Core.Path.{_≡_}
-use mathlib.Core.Bool.{Bool, true, false, cond, _&&_, _||_}
+use mathlib.Core.Bool.{Bool, true, false, cond, not, _&&_, _||_}
 use mathlib.Core.List.{List, [], _∷_, map}
-use lib.Dec.{eqb}
+use lib.Dec.{eqb, leb}
 use lib.ListN.{length, getD, take}
 use Rattle.laws.specs.Lists.{anyOf, Bytes}
 use Rattle.cause.specs.Causes.{readCodes}
@@ -65,11 +65,11 @@ stored =
 abbrev pub storedAt : ℕ → ℕ × List ℕ
 storedAt m = getD stored m (0x00, [])
 
--- they are all codes that are both written and read
+-- they are all codes that are both written and read, but the status registers 7Ah to 7Eh
 unfoldable pub StoredCodes : Type 0
 StoredCodes =
     (c : ℕ) → c < 256
-    → (lookup c .written && lookup c .read) ≡ anyOf (eqb c) (map (λ r. r .0) stored)
+    → (lookup c .written && lookup c .read && not (leb 0x7A c && leb c 0x7E)) ≡ anyOf (eqb c) (map (λ r. r .0) stored)
 
 -- PAGE and WRITE_PROTECT belong to the device; each page has its own copy of the others
 abbrev pub isUnpaged : ℕ → Bool

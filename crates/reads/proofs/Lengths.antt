@@ -13,7 +13,7 @@ use Rattle.account.specs.Account.{einBytes}
 use Rattle.command.specs.Meaning.{commandOf}
 use Rattle.command.specs.Agreement.{rowOf}
 use Rattle.command.specs.declared.meaning.Command.{Command}
-use Rattle.command.specs.declared.meaning.Command.the-variants.{SelectPage, Operation, ClearFaults, WriteProtect, Capability, VoutMode, VoutCommand, Limit, Response, StatusByte, StatusWord, Status, StatusCml, ReadEin, Reading, Revision, Absent}
+use Rattle.command.specs.declared.meaning.Command.the-variants.{SelectPage, Operation, ClearFaults, WriteProtect, Capability, VoutMode, VoutCommand, Limit, Response, StatusByte, StatusWord, Status, ReadEin, Reading, Revision, Absent}
 use Rattle.page.specs.declared.Page.{Page}
 use Rattle.unpaged.specs.declared.Unpaged.{Unpaged}
 use Rattle.reads.specs.Answers.{answersData}
@@ -36,7 +36,6 @@ module _ (u : Unpaged) (p : Page) where
   data-length StatusByte = (refl, omega arith)
   data-length StatusWord = (refl, omega arith)
   data-length (Status k) = (refl, omega arith)
-  data-length StatusCml = (refl, omega arith)
   data-length ReadEin = (refl, omega arith)
   data-length (Reading q) = (refl, omega arith)
   data-length Revision = (refl, omega arith)

@@ -4,11 +4,12 @@ use Prim.Native.Nat.{ℕ, _%_, _/_}
 use mathlib.Core.Bool.{cond}
 use mathlib.Core.List.{List, [], _∷_, _++_}
 use lib.ListN.{getD}
+use lib.Dec.{eqb}
 use Rattle.pec.specs.Pec.{pec}
 use Rattle.account.specs.Account.{einBytes}
 use Rattle.command.specs.Meaning.{commandOf}
 use Rattle.command.specs.declared.meaning.Command.{Command}
-use Rattle.command.specs.declared.meaning.Command.the-variants.{SelectPage, Operation, ClearFaults, WriteProtect, Capability, VoutMode, VoutCommand, Limit, Response, StatusByte, StatusWord, Status, StatusCml, ReadEin, Reading, Revision, Absent}
+use Rattle.command.specs.declared.meaning.Command.the-variants.{SelectPage, Operation, ClearFaults, WriteProtect, Capability, VoutMode, VoutCommand, Limit, Response, StatusByte, StatusWord, Status, ReadEin, Reading, Revision, Absent}
 use Rattle.page.specs.declared.Page.{Page}
 use Rattle.page.specs.Status.{statusByte, statusHigh, reading}
 use Rattle.unpaged.specs.declared.Unpaged.{Unpaged}
@@ -17,6 +18,10 @@ use Rattle.reads.specs.Answers.{answersData}
 -- low byte first (data sheet 2.4)
 abbrev pub wordBytes : ℕ → List ℕ
 wordBytes w = w % 256 ∷ w / 256 ∷ []
+
+-- the registers 7Ah to 7Eh, by their places from 7Ah on: four of the page, and STATUS_CML
+unfoldable pub statusRegister : Page → ℕ → ℕ → ℕ
+statusRegister p cml k = cond (eqb k 4) cml (getD (p .status) (k % 4) 0)
 
 -- the data bytes of a command. CAPABILITY, VOUT_MODE and PMBUS_REVISION are constants (data sheet 3.3). The two cases that are not read have
 -- none.
@@ -32,8 +37,7 @@ readData u p (Limit k) = wordBytes (getD (p .limits) (k % 6) 0)
 readData u p (Response k) = getD (p .responses) (k % 6) 0 ∷ []
 readData u p StatusByte = statusByte p (u .cml) ∷ []
 readData u p StatusWord = statusByte p (u .cml) ∷ statusHigh p ∷ []
-readData u p (Status k) = getD (p .status) (k % 4) 0 ∷ []
-readData u p StatusCml = u .cml ∷ []
+readData u p (Status k) = statusRegister p (u .cml) k ∷ []
 readData u p ReadEin = einBytes (u .energy)
 readData u p (Reading q) = wordBytes (reading p q)
 readData u p Revision = 0x22 ∷ []

@@ -7,7 +7,7 @@ ghost use Rattle.account.specs.Account.{einBytes};
 ghost use Rattle.command.specs.Meaning.{commandOf};
 ghost use Rattle.page.specs.Status.{statusByte, statusHigh, reading};
 ghost use Rattle.reads.specs.Reply.{stream, streamOf};
-ghost use Rattle.reads.specs.Data.{wordBytes, readData, checked, readStream};
+ghost use Rattle.reads.specs.Data.{wordBytes, statusRegister, readData, checked, readStream};
 use super::answers;
 use super::reply::Stream;
 use account::Account;
@@ -73,9 +73,13 @@ fn response(p: Page, k: u8) -> Stream
     one(p.responses[i])
 }
 
-fn status(p: Page, k: u8) -> Stream
-    ensures { λ r. ⌜ (r ≡ stream (getD (p .status) (k % 4) 0 ∷ [])) × (r .length < 8) ⌝ }
+// A register of the page, or STATUS_CML.
+fn status(p: Page, cml: u8, k: u8) -> Stream
+    ensures { λ r. ⌜ (r ≡ stream (statusRegister p cml k ∷ [])) × (r .length < 8) ⌝ }
 {
+    if k == 4 {
+        return one(cml);
+    }
     let i = (k % 4) as usize;
     one(p.status[i])
 }
@@ -118,8 +122,7 @@ pub fn read_data(u: Unpaged, p: Page, command: Command) -> Stream
         Command::Response(k) => response(p, k),
         Command::StatusByte => status_byte(p, u.cml),
         Command::StatusWord => status_word(p, u.cml),
-        Command::Status(k) => status(p, k),
-        Command::StatusCml => one(u.cml),
+        Command::Status(k) => status(p, u.cml, k),
         Command::ReadEin => energy(energy_account),
         Command::Reading(quantity) => reading(p, quantity),
         Command::Revision => one(0x22),

@@ -17,12 +17,12 @@ use Rattle.cause.specs.Causes.{Actions, voltage, current, causes, responseOf, v
 use Rattle.command.specs.Table.{lookup}
 use Rattle.command.specs.Meaning.{commandOf, settingOf, faultOf, readingOf}
 use Rattle.command.specs.declared.meaning.Command.{Command}
-use Rattle.command.specs.declared.meaning.Command.the-variants.{SelectPage, Operation, ClearFaults, WriteProtect, Capability, VoutMode, VoutCommand, Limit, Response, StatusByte, StatusWord, Status, StatusCml, ReadEin, Reading, Revision, Absent}
+use Rattle.command.specs.declared.meaning.Command.the-variants.{SelectPage, Operation, ClearFaults, WriteProtect, Capability, VoutMode, VoutCommand, Limit, Response, StatusByte, StatusWord, Status, ReadEin, Reading, Revision, Absent}
 use Rattle.page.specs.Settings.{validOperation, validResponse}
 use Rattle.unpaged.specs.declared.Unpaged.{Unpaged}
 use Rattle.unpaged.specs.Unpaged.{validPage, validProtect}
 use Rattle.unpaged.specs.Applies.{lowest, isIn}
-use Rattle.writes.specs.Asked.{clearFaults, writeOf, asked, validSetting, validWrite}
+use Rattle.writes.specs.Asked.{clearFaults, clearStatus, writeOf, asked, validSetting, validWrite}
 use Rattle.writes.specs.Answers.{checkRight, permitted, dataAnswer, lengthAnswer, codeAnswer, addressedAnswer, writeAnswer}
 use Rattle.writes.specs.Applies.{permittedAt, validFor, code, given, due, AnswersApply}
 
@@ -68,7 +68,6 @@ groupOf (Limit k) = 5
 groupOf StatusByte = 5
 groupOf StatusWord = 5
 groupOf (Status k) = 5
-groupOf StatusCml = 5
 groupOf ReadEin = 5
 groupOf (Reading q) = 5
 groupOf Revision = 5
@@ -101,7 +100,7 @@ module _ (n x w : ℕ) (byte : x < 256) where
   valid-actions current = agree-test (validAt current) (λ x. isIn x (0x00 ∷ 0xC0 ∷ [])) 256 tt x byte
 
   valid-command : (k : Command) → validWrite n (writeOf k x w) ≡ validIn (groupOf k) n x
-  unfolding validWrite writeOf validSetting validOperation validResponse validPage validProtect clearFaults
+  unfolding validWrite writeOf validSetting validOperation validResponse validPage validProtect clearFaults clearStatus
   valid-command SelectPage = refl
   valid-command Operation = agree-test validOperation (λ x. isIn x (0x00 ∷ 0x40 ∷ 0x80 ∷ [])) 256 tt x byte
   valid-command WriteProtect = agree-test validProtect (λ x. isIn x (0x00 ∷ 0x20 ∷ 0x40 ∷ 0x80 ∷ [])) 256 tt x byte
@@ -113,8 +112,7 @@ module _ (n x w : ℕ) (byte : x < 256) where
   valid-command (Limit k) = refl
   valid-command StatusByte = refl
   valid-command StatusWord = refl
-  valid-command (Status k) = refl
-  valid-command StatusCml = refl
+  valid-command (Status k) = either (eqb k 4) (λ y. rw y) (λ e. rw e)
   valid-command ReadEin = refl
   valid-command (Reading q) = refl
   valid-command Revision = refl

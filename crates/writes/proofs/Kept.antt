@@ -14,6 +14,7 @@ module _ (u : Unpaged) where
   alert-kept (Write.Protect x) = refl
   alert-kept (Write.Change s) = refl
   alert-kept (Write.Clear m) = refl
+  alert-kept (Write.ClearCml m) = refl
 
   pub energy-kept : (w : Write) → unpagedLeft w u .energy ≡ u .energy
   unfolding unpagedLeft
@@ -22,6 +23,7 @@ module _ (u : Unpaged) where
   energy-kept (Write.Protect x) = refl
   energy-kept (Write.Change s) = refl
   energy-kept (Write.Clear m) = refl
+  energy-kept (Write.ClearCml m) = refl
 
   -- a clearing alone changes STATUS_CML
   pub cml-kept : (w : Write) → clearing w ≡ false → unpagedLeft w u .cml ≡ u .cml
@@ -31,3 +33,4 @@ module _ (u : Unpaged) where
   cml-kept (Write.Protect x) h = refl
   cml-kept (Write.Change s) h = refl
   cml-kept (Write.Clear m) h = absurd (false≢true (sym h))
+  cml-kept (Write.ClearCml m) h = absurd (false≢true (sym h))

@@ -2,10 +2,10 @@
 -- applies, 1 before 2 for a non-empty write: Applies.antt says so a second time, number by number.
 -- Assumes nothing.
 use Prim.Native.Nat.{ℕ, _-_}
-use mathlib.Core.Bool.{Bool, true, cond, _||_}
+use mathlib.Core.Bool.{Bool, true, cond, _&&_, _||_}
 use mathlib.Core.List.{List}
 use lib.ListN.{length, getD, take}
-use lib.Dec.{ltb, eqb}
+use lib.Dec.{ltb, leb, eqb}
 use Rattle.pec.specs.Pec.{pec}
 use Rattle.command.specs.declared.table.Entry.{Entry}
 use Rattle.command.specs.Table.{lookup}
@@ -17,14 +17,17 @@ use Rattle.writes.specs.Asked.{asked, validWrite}
 unfoldable pub checkRight : List ℕ → Bool
 checkRight s = eqb (pec (take (length s - 1) s)) (getD s (length s - 1) 0)
 
--- the codes that a level of WRITE_PROTECT lets through (data sheet 4.1, 4.2): 00h all; 20h also VOUT_COMMAND; 20h and 40h OPERATION and PAGE;
--- each WRITE_PROTECT itself and CLEAR_FAULTS
+-- let through at every level: WRITE_PROTECT itself, CLEAR_FAULTS, and the status registers 7Ah to 7Eh
+abbrev pub alwaysPermitted : ℕ → Bool
+alwaysPermitted code = eqb code 0x10 || eqb code 0x03 || (leb 0x7A code && leb code 0x7E)
+
+-- the codes that a level of WRITE_PROTECT lets through (data sheet 4.1, 4.2): 00h all; 20h also VOUT_COMMAND; 20h and 40h OPERATION and PAGE
 unfoldable pub permitted : ℕ → ℕ → Bool
 permitted protect code =
     cond (eqb protect 0x00) true
-    (cond (eqb protect 0x20) (eqb code 0x10 || eqb code 0x03 || (eqb code 0x01 || eqb code 0x00) || eqb code 0x21)
-    (cond (eqb protect 0x40) (eqb code 0x10 || eqb code 0x03 || (eqb code 0x01 || eqb code 0x00))
-    (eqb code 0x10 || eqb code 0x03)))
+    (cond (eqb protect 0x20) (alwaysPermitted code || (eqb code 0x01 || eqb code 0x00) || eqb code 0x21)
+    (cond (eqb protect 0x40) (alwaysPermitted code || (eqb code 0x01 || eqb code 0x00))
+    (alwaysPermitted code)))
 
 -- Each definition below goes on where the one above it finds nothing: 8 and 9,
 unfoldable pub dataAnswer : ℕ → Unpaged → ℕ → Write → ℕ

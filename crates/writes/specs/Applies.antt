@@ -22,9 +22,9 @@ codesAt level =
     (cond (eqb level 0x40) (0x10 ∷ 0x01 ∷ 0x00 ∷ [])
     (0x10 ∷ []))
 
--- 00h permits every code, and CLEAR_FAULTS is permitted at every level (data sheet 4.2)
+-- 00h permits every code, and CLEAR_FAULTS and the status registers 7Ah to 7Eh are permitted at every level (data sheet 4.2)
 abbrev pub permittedAt : ℕ → ℕ → Bool
-permittedAt level code = eqb level 0x00 || eqb code 0x03 || isIn code (codesAt level)
+permittedAt level code = eqb level 0x00 || isIn code (0x03 ∷ 0x7A ∷ 0x7B ∷ 0x7C ∷ 0x7D ∷ 0x7E ∷ []) || isIn code (codesAt level)
 
 -- the first data byte x is valid for a code, in a device with n pages; words may be any (data sheet 3.1, 3.6)
 abbrev pub validFor : ℕ → ℕ → ℕ → Bool

@@ -1,12 +1,14 @@
 -- What a write asks for, as data, and which data are valid. Everything that speaks of writes goes by the kinds of `Write`, not by commands.
 -- Assumes nothing.
 use Prim.Native.Nat.{ℕ, _+_, _*_}
-use mathlib.Core.Bool.{Bool, true}
+use mathlib.Core.Bool.{Bool, true, cond}
 use mathlib.Core.List.{List, [], _∷_}
 use lib.ListN.{getD}
+use lib.Dec.{eqb}
 use Rattle.command.specs.Meaning.{commandOf}
 use Rattle.command.specs.declared.meaning.Command.{Command}
-use Rattle.command.specs.declared.meaning.Command.the-variants.{SelectPage, Operation, ClearFaults, WriteProtect, Capability, VoutMode, VoutCommand, Limit, Response, StatusByte, StatusWord, Status, StatusCml, ReadEin, Reading, Revision, Absent}
+use Rattle.command.specs.declared.meaning.Command.the-variants.{SelectPage, Operation, ClearFaults, WriteProtect, Capability, VoutMode, VoutCommand, Limit, Response, StatusByte, StatusWord, Status, ReadEin, Reading, Revision, Absent}
+use Rattle.page.specs.Causes.{weigh}
 use Rattle.page.specs.Settings.{validOperation, validResponse}
 use Rattle.unpaged.specs.Unpaged.{validPage, validProtect}
 use Rattle.writes.specs.declared.asked.Masks.{Masks}
@@ -27,6 +29,20 @@ pageMasks m = m .vout ∷ m .iout ∷ m .input ∷ m .temperature ∷ []
 unfoldable pub clearFaults : Write
 clearFaults = Write.Clear (record { vout = 255; iout = 255; input = 255; temperature = 255; cml = 255 })
 
+-- the mask x at register k of the pages
+unfoldable pub registerMasks : ℕ → ℕ → Masks
+registerMasks k x = record {
+  vout = weigh (eqb k 0) x;
+  iout = weigh (eqb k 1) x;
+  input = weigh (eqb k 2) x;
+  temperature = weigh (eqb k 3) x;
+  cml = 0;
+}
+
+-- a status register is written with ones at the bits to clear (data sheet 6.8); 4 is STATUS_CML, which belongs to no page
+unfoldable pub clearStatus : ℕ → ℕ → Write
+clearStatus k x = cond (eqb k 4) (Write.ClearCml x) (Write.Clear (registerMasks k x))
+
 -- the write of a command; x is its first data byte, w its data word. The codes that are not written ask for nothing: they get answer 3.
 unfoldable pub writeOf : Command → ℕ → ℕ → Write
 writeOf SelectPage x w = Write.SelectPage x
@@ -40,8 +56,7 @@ writeOf Capability x w = Write.Nothing
 writeOf VoutMode x w = Write.Nothing
 writeOf StatusByte x w = Write.Nothing
 writeOf StatusWord x w = Write.Nothing
-writeOf (Status k) x w = Write.Nothing
-writeOf StatusCml x w = Write.Nothing
+writeOf (Status k) x w = clearStatus k x
 writeOf ReadEin x w = Write.Nothing
 writeOf (Reading q) x w = Write.Nothing
 writeOf Revision x w = Write.Nothing
@@ -65,3 +80,4 @@ validWrite n (Write.SelectPage x) = validPage n x
 validWrite n (Write.Protect x) = validProtect x
 validWrite n (Write.Change s) = validSetting s
 validWrite n (Write.Clear m) = true
+validWrite n (Write.ClearCml m) = true

@@ -35,6 +35,7 @@ pageLeft (Write.SelectPage x) p = p
 pageLeft (Write.Protect x) p = p
 pageLeft (Write.Change s) p = changed s p
 pageLeft (Write.Clear m) p = cleared m p
+pageLeft (Write.ClearCml m) p = p
 
 -- the unpaged part; its alert depends on every page and is set where the pages are (device, specs/Step.antt)
 unfoldable pub unpagedLeft : Write → Unpaged → Unpaged
@@ -43,6 +44,7 @@ unpagedLeft (Write.SelectPage x) u = withPage u x
 unpagedLeft (Write.Protect x) u = withProtect u x
 unpagedLeft (Write.Change s) u = u
 unpagedLeft (Write.Clear m) u = withCml u (without (u .cml) (m .cml))
+unpagedLeft (Write.ClearCml m) u = withCml u (without (u .cml) m)
 
 -- the writes after which the alert is worked out anew
 unfoldable pub clearing : Write → Bool
@@ -51,3 +53,4 @@ clearing (Write.SelectPage x) = false
 clearing (Write.Protect x) = false
 clearing (Write.Change s) = false
 clearing (Write.Clear m) = true
+clearing (Write.ClearCml m) = true

@@ -23,7 +23,8 @@ fn check_right(s: &[u8]) -> bool
 pub fn permitted(protect: u8, code: u8) -> bool
     ensures { λ r. ⌜ r ≡ permitted protect code ⌝ }
 {
-    let always = (code == 0x10) | (code == 0x03);
+    let status = (0x7A <= code) & (code <= 0x7E);
+    let always = (code == 0x10) | (code == 0x03) | status;
     let operate = (code == 0x01) | (code == 0x00);
     match protect {
         0x00 => true,

@@ -1,6 +1,6 @@
 // What a write asks for, as data: a few kinds, whatever the command. Which data are valid.
 ghost use mathlib.Core.Path.{_≡_};
-ghost use Rattle.writes.specs.Asked.{clearFaults, writeOf, asked, validSetting, validWrite};
+ghost use Rattle.writes.specs.Asked.{clearFaults, registerMasks, clearStatus, writeOf, asked, validSetting, validWrite};
 use super::bytes;
 use command::Command;
 
@@ -31,6 +31,8 @@ pub enum Write {
     Change(Setting),
     // bits of those pages and of STATUS_CML
     Clear(Masks),
+    // bits of STATUS_CML alone; no page is touched
+    ClearCml(u8),
 }
 
 // CLEAR_FAULTS clears every bit.
@@ -45,6 +47,36 @@ fn clear_faults() -> Write
         cml: 255,
     };
     Write::Clear(masks)
+}
+
+// The mask of one register of the pages.
+fn register_masks(k: u8, x: u8) -> Masks
+    ensures { λ r. ⌜ r ≡ registerMasks k x ⌝ }
+{
+    Masks {
+        vout: page::causes::weigh(k == 0, x),
+        iout: page::causes::weigh(k == 1, x),
+        input: page::causes::weigh(k == 2, x),
+        temperature: page::causes::weigh(k == 3, x),
+        cml: 0,
+    }
+}
+
+fn clear_register(k: u8, x: u8) -> Write
+    ensures { λ r. ⌜ r ≡ Write.Clear (registerMasks k x) ⌝ }
+{
+    let masks = register_masks(k, x);
+    Write::Clear(masks)
+}
+
+// A status register is written with ones at the bits to clear; 4 is STATUS_CML, which belongs to no page.
+fn clear_status(k: u8, x: u8) -> Write
+    ensures { λ r. ⌜ r ≡ clearStatus k x ⌝ }
+{
+    if k == 4 {
+        return Write::ClearCml(x);
+    }
+    clear_register(k, x)
 }
 
 // A change of one setting.
@@ -66,6 +98,7 @@ pub fn write_of(command: Command, x: u8, word: u16) -> Write
         Command::VoutCommand => change(Setting::VoutCommand(word)),
         Command::Limit(k) => change(Setting::Limit(k, word)),
         Command::Response(k) => change(Setting::Response(k, x)),
+        Command::Status(k) => clear_status(k, x),
         _ => Write::Nothing,
     }
 }
@@ -103,5 +136,6 @@ pub fn valid_write(n: u8, w: Write) -> bool
         Write::Protect(x) => unpaged::valid_protect(x),
         Write::Change(s) => valid_setting(s),
         Write::Clear(_) => true,
+        Write::ClearCml(_) => true,
     }
 }

@@ -46,6 +46,7 @@ pub fn page_left(w: Write, p: Page) -> Page
         Write::Protect(_) => p,
         Write::Change(s) => changed(p, s),
         Write::Clear(m) => cleared(p, m),
+        Write::ClearCml(_) => p,
     }
 }
 
@@ -65,11 +66,11 @@ fn protect(u: Unpaged, x: u8) -> Unpaged
     v
 }
 
-fn clear_cml(u: Unpaged, m: Masks) -> Unpaged
-    ensures { λ r. ⌜ r ≡ withCml u (without (u .cml) (m .cml)) ⌝ }
+fn clear_cml(u: Unpaged, mask: u8) -> Unpaged
+    ensures { λ r. ⌜ r ≡ withCml u (without (u .cml) mask) ⌝ }
 {
     let mut v = u;
-    v.cml = u.cml ^ (u.cml & m.cml);
+    v.cml = u.cml ^ (u.cml & mask);
     v
 }
 
@@ -81,7 +82,8 @@ pub fn unpaged_left(w: Write, u: Unpaged) -> Unpaged
         Write::SelectPage(x) => select_page(u, x),
         Write::Protect(x) => protect(u, x),
         Write::Change(_) => u,
-        Write::Clear(m) => clear_cml(u, m),
+        Write::Clear(m) => clear_cml(u, m.cml),
+        Write::ClearCml(m) => clear_cml(u, m),
     }
 }
 
@@ -95,5 +97,6 @@ pub fn clears(w: Write) -> bool
         Write::Protect(_) => false,
         Write::Change(_) => false,
         Write::Clear(_) => true,
+        Write::ClearCml(_) => true,
     }
 }

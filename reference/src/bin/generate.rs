@@ -104,7 +104,8 @@ impl Generator {
             570..=759 => self.read(),
             760..=819 => self.sample(),
             820..=869 => self.alert(),
-            870..=914 => self.clear_faults(),
+            870..=899 => self.clear_faults(),
+            900..=914 => self.clear_by_ones(),
             915..=964 => self.bad_line(),
             965..=989 => self.malformed(),
             990..=995 => self.calm_page(),
@@ -239,10 +240,28 @@ impl Generator {
             0x00 => vec![self.random.pick(&[8, 9, 0x80, 0xFF])],
             0x01 if valid => vec![self.random.pick(&[0x00, 0x40, 0x80, 0x80, 0x80])],
             0x10 if valid => vec![self.random.pick(&[0x00, 0x00, 0x20, 0x40, 0x80])],
+            0x7A..=0x7E => vec![self.ones(code)],
             _ => {
                 let length = command::lookup(code).map_or(1, |command| command.data);
                 self.random.bytes(length)
             }
+        }
+    }
+
+    /// Ones for a status register: all that stand, some of them, others, or any.
+    fn ones(&mut self, code: u8) -> u8 {
+        let standing = match code {
+            0x7E => self.model.cml,
+            _ => self.model.pages[usize::from(self.model.page)].status[usize::from(code - 0x7A)],
+        };
+        match self.random.below(8) {
+            0 => 0x00,
+            1 => 0xFF,
+            2 | 3 => standing,
+            4 => standing & self.random.byte(),
+            5 => !standing,
+            6 => 1 << self.random.below(8),
+            _ => self.random.byte(),
         }
     }
 
@@ -338,6 +357,22 @@ impl Generator {
             return frame_line(0x01, &[0xC0, 0x00, page]);
         }
         self.write_line(0x03, &[])
+    }
+
+    /// Ones written to a status register, with the register and the alert looked
+    /// at afterwards, at times after an answered alert.
+    fn clear_by_ones(&mut self) -> Vec<u8> {
+        let code = 0x7A + self.random.below(5) as u8;
+        let ones = self.ones(code);
+        let clear = self.write_line(code, &[ones]);
+        let look = frame_line(0x02, &[2, 0xC0, code, 0xC1]);
+        self.pending.extend([clear, look, frame_line(0x05, &[1])]);
+        if self.random.percent(50) {
+            return frame_line(0x05, &[1]);
+        }
+        self.pending
+            .pop_front()
+            .expect("three lines were put there")
     }
 
     // Rows of frames.

@@ -58,7 +58,7 @@ pub fn device(change: impl FnOnce(&mut Device)) -> Device {
 }
 
 /// Codes that are written, with their data lengths (data sheet 3.1).
-pub const WRITTEN: [(u8, usize); 17] = [
+pub const WRITTEN: [(u8, usize); 22] = [
     (0x00, 1),
     (0x01, 1),
     (0x03, 0),
@@ -76,6 +76,11 @@ pub const WRITTEN: [(u8, usize); 17] = [
     (0x54, 1),
     (0x56, 1),
     (0x5A, 1),
+    (0x7A, 1),
+    (0x7B, 1),
+    (0x7C, 1),
+    (0x7D, 1),
+    (0x7E, 1),
 ];
 
 /// Codes marked r with their data lengths.

@@ -28,7 +28,7 @@ returns-2 c = rw (c .match .keys2)
 
 returns-3 : tie.Need-returns-3
 unfolding commandOf
-returns-3 c = rw (c .match .keys3)
+returns-3 c = search calls depth 30 fits 20000
 
 returns-4 : tie.Need-returns-4
 unfolding commandOf
@@ -58,10 +58,6 @@ returns-10 : tie.Need-returns-10
 unfolding commandOf
 returns-10 c = search calls depth 30 fits 20000
 
-returns-11 : tie.Need-returns-11
-unfolding commandOf
-returns-11 c = search calls depth 30 fits 20000
-
 pub command-of-spec : {M : Type 1} → statement M
 command-of-spec =
     tie.close
@@ -79,5 +75,4 @@ command-of-spec =
     returns-7
     returns-8
     returns-9
-    returns-10
-    returns-11)
+    returns-10)

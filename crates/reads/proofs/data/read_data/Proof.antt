@@ -80,12 +80,6 @@ status-requires c κs = search needs
 enum-told-10 : tie.Need-enum-told-10
 enum-told-10 c = search needs
 
-one-requires-6 : tie.Need-one-requires-6
-one-requires-6 c κs = search needs
-
-enum-told-11 : tie.Need-enum-told-11
-enum-told-11 c = search needs
-
 energy-requires : tie.Need-energy-requires
 energy-requires c κs = search needs
 
@@ -95,14 +89,14 @@ enum-known-command-4 c = search needs
 reading-requires : tie.Need-reading-requires
 reading-requires c κs = search needs
 
+enum-told-11 : tie.Need-enum-told-11
+enum-told-11 c = search needs
+
+one-requires-6 : tie.Need-one-requires-6
+one-requires-6 c κs = search needs
+
 enum-told-12 : tie.Need-enum-told-12
 enum-told-12 c = search needs
-
-one-requires-7 : tie.Need-one-requires-7
-one-requires-7 c κs = search needs
-
-enum-told-13 : tie.Need-enum-told-13
-enum-told-13 c = search needs
 
 none-requires-2 : tie.Need-none-requires-2
 none-requires-2 c κs = search needs
@@ -157,23 +151,19 @@ returns-12 c = rw (c .before .before .command3 .given .1) (c .status .ensures)
 
 returns-13 : tie.Need-returns-13
 unfolding readData
-returns-13 c = rw (c .before .enum-told10 .given .1) (c .one6 .ensures)
+returns-13 c = rw (c .before .enum-told10 .given .1) (c .energy .ensures)
 
 returns-14 : tie.Need-returns-14
 unfolding readData
-returns-14 c = rw (c .before .enum-told11 .given .1) (c .energy .ensures)
+returns-14 c = rw (c .before .before .command4 .given .1) (c .reading .ensures)
 
 returns-15 : tie.Need-returns-15
 unfolding readData
-returns-15 c = rw (c .before .before .command4 .given .1) (c .reading .ensures)
+returns-15 c = rw (c .before .enum-told11 .given .1) (c .one6 .ensures)
 
 returns-16 : tie.Need-returns-16
 unfolding readData
-returns-16 c = rw (c .before .enum-told12 .given .1) (c .one7 .ensures)
-
-returns-17 : tie.Need-returns-17
-unfolding readData
-returns-17 c = rw (c .before .enum-told13 .given .1) (c .none2 .ensures)
+returns-16 c = rw (c .before .enum-told12 .given .1) (c .none2 .ensures)
 
 pub read-data-spec : {M : Type 1} → statement M
 read-data-spec =
@@ -204,14 +194,12 @@ read-data-spec =
     enum-known-command-3
     status-requires
     enum-told-10
-    one-requires-6
-    enum-told-11
     energy-requires
     enum-known-command-4
     reading-requires
+    enum-told-11
+    one-requires-6
     enum-told-12
-    one-requires-7
-    enum-told-13
     none-requires-2
     returns
     returns-2
@@ -228,5 +216,4 @@ read-data-spec =
     returns-13
     returns-14
     returns-15
-    returns-16
-    returns-17)
+    returns-16)

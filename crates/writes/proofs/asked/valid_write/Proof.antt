@@ -29,6 +29,9 @@ valid-setting-requires c κs = search needs
 enum-told-2 : tie.Need-enum-told-2
 enum-told-2 c = search needs
 
+enum-told-3 : tie.Need-enum-told-3
+enum-told-3 c = search needs
+
 returns : tie.Need-returns
 unfolding validWrite
 returns c = rw (c .enum-told .given .1)
@@ -49,6 +52,10 @@ returns-5 : tie.Need-returns-5
 unfolding validWrite
 returns-5 c = rw (c .enum-told2 .given .1)
 
+returns-6 : tie.Need-returns-6
+unfolding validWrite
+returns-6 c = rw (c .enum-told3 .given .1)
+
 pub valid-write-spec : {M : Type 1} → statement M
 valid-write-spec =
     tie.close
@@ -61,8 +68,10 @@ valid-write-spec =
     enum-known-w-3
     valid-setting-requires
     enum-told-2
+    enum-told-3
     returns
     returns-2
     returns-3
     returns-4
-    returns-5)
+    returns-5
+    returns-6)

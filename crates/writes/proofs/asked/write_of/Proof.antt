@@ -9,14 +9,14 @@ use types.Run.{OneOf, miss}
 use denote.Enum.Declared.{tagOf}
 use Rattle.command.proofs.meaning.Command.{the-type}
 use Rattle.command.specs.declared.meaning.Command.{Command}
-use Rattle.command.specs.declared.meaning.Command.the-variants.{SelectPage, Operation, ClearFaults, WriteProtect, Capability, VoutMode, VoutCommand, Limit, Response, StatusByte, StatusWord, Status, StatusCml, ReadEin, Reading, Revision, Absent}
+use Rattle.command.specs.declared.meaning.Command.the-variants.{SelectPage, Operation, ClearFaults, WriteProtect, Capability, VoutMode, VoutCommand, Limit, Response, StatusByte, StatusWord, Status, ReadEin, Reading, Revision, Absent}
 use Rattle.writes.specs.declared.asked.Write.{Write}
 use Rattle.writes.proofs.asked.write_of.Statement.{statement}
 use Rattle.writes.proofs.asked.write_of.Tie as tie
 
 -- the commands that have no arm of their own, by their places in the enum
 abbrev others : List ℕ
-others = 4 ∷ 5 ∷ 9 ∷ 10 ∷ 11 ∷ 12 ∷ 13 ∷ 14 ∷ 15 ∷ 16 ∷ []
+others = 4 ∷ 5 ∷ 9 ∷ 10 ∷ 12 ∷ 13 ∷ 14 ∷ 15 ∷ []
 
 other : (k : Command) (x w : ℕ) → OneOf others (tagOf the-type k) → Write.Nothing ≡ writeOf k x w
 unfolding writeOf
@@ -31,8 +31,7 @@ other (Limit j) x w h = absurd (miss others 7 tt h)
 other (Response j) x w h = absurd (miss others 8 tt h)
 other StatusByte x w h = refl
 other StatusWord x w h = refl
-other (Status j) x w h = refl
-other StatusCml x w h = refl
+other (Status j) x w h = absurd (miss others 11 tt h)
 other ReadEin x w h = refl
 other (Reading j) x w h = refl
 other Revision x w h = refl
@@ -74,6 +73,12 @@ enum-known-command-2 c = search needs
 change-requires-4 : tie.Need-change-requires-4
 change-requires-4 c κs = search needs
 
+enum-known-command-3 : tie.Need-enum-known-command-3
+enum-known-command-3 c = search needs
+
+clear-status-requires : tie.Need-clear-status-requires
+clear-status-requires c κs = search needs
+
 returns : tie.Need-returns
 unfolding writeOf
 returns c = rw (c .enum-told .given .1)
@@ -103,7 +108,11 @@ unfolding writeOf
 returns-7 c = rw (c .before .before .command2 .given .1) (c .change4 .ensures)
 
 returns-8 : tie.Need-returns-8
-returns-8 c = let a = c .before .args in other (a .command) (a .x) (a .word) (c .match .keys8)
+unfolding writeOf
+returns-8 c = rw (c .before .before .command3 .given .1) (c .clear-status .ensures)
+
+returns-9 : tie.Need-returns-9
+returns-9 c = let a = c .before .args in other (a .command) (a .x) (a .word) (c .match .keys9)
 
 pub write-of-spec : {M : Type 1} → statement M
 write-of-spec =
@@ -121,6 +130,8 @@ write-of-spec =
     change-requires-3
     enum-known-command-2
     change-requires-4
+    enum-known-command-3
+    clear-status-requires
     returns
     returns-2
     returns-3
@@ -128,4 +139,5 @@ write-of-spec =
     returns-5
     returns-6
     returns-7
-    returns-8)
+    returns-8
+    returns-9)

@@ -26,6 +26,9 @@ enum-known-w-2 c = search needs
 cleared-requires : tie.Need-cleared-requires
 cleared-requires c κs = search needs
 
+enum-told-4 : tie.Need-enum-told-4
+enum-told-4 c = search needs
+
 returns : tie.Need-returns
 unfolding pageLeft
 returns c = rw (c .enum-told .given .1)
@@ -46,6 +49,10 @@ returns-5 : tie.Need-returns-5
 unfolding pageLeft
 returns-5 c = rw (c .before .before .w2 .given .1) (c .cleared .ensures)
 
+returns-6 : tie.Need-returns-6
+unfolding pageLeft
+returns-6 c = rw (c .enum-told4 .given .1)
+
 pub page-left-spec : {M : Type 1} → statement M
 page-left-spec =
     tie.close
@@ -57,8 +64,10 @@ page-left-spec =
     changed-requires
     enum-known-w-2
     cleared-requires
+    enum-told-4
     returns
     returns-2
     returns-3
     returns-4
-    returns-5)
+    returns-5
+    returns-6)

@@ -29,6 +29,12 @@ enum-known-w-3 c = search needs
 clear-cml-requires : tie.Need-clear-cml-requires
 clear-cml-requires c κs = search needs
 
+enum-known-w-4 : tie.Need-enum-known-w-4
+enum-known-w-4 c = search needs
+
+clear-cml-requires-2 : tie.Need-clear-cml-requires-2
+clear-cml-requires-2 c κs = search needs
+
 returns : tie.Need-returns
 unfolding unpagedLeft
 returns c = rw (c .enum-told .given .1)
@@ -49,6 +55,10 @@ returns-5 : tie.Need-returns-5
 unfolding unpagedLeft
 returns-5 c = rw (c .before .before .w3 .given .1) (c .clear-cml .ensures)
 
+returns-6 : tie.Need-returns-6
+unfolding unpagedLeft
+returns-6 c = rw (c .before .before .w4 .given .1) (c .clear-cml2 .ensures)
+
 pub unpaged-left-spec : {M : Type 1} → statement M
 unpaged-left-spec =
     tie.close
@@ -61,8 +71,11 @@ unpaged-left-spec =
     enum-told-2
     enum-known-w-3
     clear-cml-requires
+    enum-known-w-4
+    clear-cml-requires-2
     returns
     returns-2
     returns-3
     returns-4
-    returns-5)
+    returns-5
+    returns-6)
