@@ -22,7 +22,7 @@
 extern "C" {
 #endif
 
-#define TONGSORREL_STACK 1536
+#define TONGSORREL_STACK 2048
 
 /* ---- names */
 
@@ -146,8 +146,8 @@ typedef struct tongsorrel_account {
     uint32_t count;
 } tongsorrel_account;
 
-/* What the device holds beside its pages: PAGE (0 to 7), WRITE_PROTECT, STATUS_CML, the alert (SMBALERT# asserted) and the
- * account. */
+/* What the device holds beside its pages: PAGE (0 to 7, or FFh where every page is selected: 3.8), WRITE_PROTECT, STATUS_CML,
+ * the alert (SMBALERT# asserted) and the account. */
 typedef struct tongsorrel_unpaged {
     uint8_t page;
     uint8_t protect;
@@ -185,7 +185,7 @@ tongsorrel_device tongsorrel_power_on(void);
 tongsorrel_done tongsorrel_write(tongsorrel_device device, const uint8_t *bytes, size_t length);
 
 /* A read transaction: the header C0h, code, C1h, and a reply buffer of n bytes, n being the number of bytes that the host clocks. All n bytes
- * are written (2.9). Answers 0, 1, 2, 3, 10, 11, 15 (11.3). */
+ * are written (2.9). Answers 0, 1, 2, 3, 9 (a paged code under PAGE FFh: 3.8), 10, 11, 15 (11.3). */
 tongsorrel_done tongsorrel_read(tongsorrel_device device, const uint8_t *header, size_t header_length, uint8_t *reply, size_t n);
 
 /* A measurement: the latest word of a quantity on a page (5.6), which is 0 to 7 whatever PAGE is. Answers 0, 12, 15. */

@@ -128,7 +128,7 @@ static void report(const char *name) {
     deepest = 0;
 }
 
-enum { STATES = 3 };
+enum { STATES = 4 };
 
 /* A device whose pages are on, measured and beyond their limits. */
 static tongsorrel_device busy(void) {
@@ -141,8 +141,9 @@ static tongsorrel_device busy(void) {
 }
 
 int main(void) {
-    tongsorrel_device states[STATES] = {tongsorrel_power_on(), busy(), busy()};
+    tongsorrel_device states[STATES] = {tongsorrel_power_on(), busy(), busy(), busy()};
     states[2].unpaged.protect = 0x01;
+    states[3].unpaged.page = 0xFF;
     DEPTH(power_on_call, no_power_on, tongsorrel_power_on, run_power_on);
     report("tongsorrel_power_on");
     for (int s = 0; s < STATES; s++)

@@ -28,13 +28,17 @@ impl Command {
     pub fn read(&self) -> bool {
         self.access != Access::Write
     }
+
+    /// Whether the code acts on the selected page (CLEAR_FAULTS on CML as well).
+    pub fn paged(&self) -> bool {
+        !matches!(self.code, 0x00 | 0x10 | 0x19 | 0x20 | 0x7E | 0x86 | 0x98)
+    }
 }
 
 const fn row(code: u8, access: Access, data: usize) -> Command {
     Command { code, access, data }
 }
 
-/// Unpaged: 00, 10, 19, 20, 7E, 86, 98. The rest act on the selected page.
 pub const TABLE: [Command; 32] = [
     row(0x00, ReadWrite, 1), // PAGE
     row(0x01, ReadWrite, 1), // OPERATION

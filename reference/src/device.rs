@@ -8,9 +8,13 @@ use crate::command::{self, Command};
 use crate::linear11;
 use crate::pec::{pec, pec_from};
 use std::cmp::Ordering;
+use std::ops::Range;
 
 pub const WRITE_ADDRESS: u8 = 0xC0;
 pub const READ_ADDRESS: u8 = 0xC1;
+
+/// PAGE data that selects every page (02, request 2).
+pub const ALL_PAGES: u8 = 0xFF;
 
 // Constants of the unpaged read codes.
 const CAPABILITY: u8 = 0xB0;
@@ -103,6 +107,11 @@ fn response_of(code: u8) -> Option<usize> {
     }
 }
 
+/// PAGE: one of the eight pages, or all of them at once.
+fn page_valid(data: u8) -> bool {
+    data <= 7 || data == ALL_PAGES
+}
+
 fn operation_valid(data: u8) -> bool {
     matches!(data, 0x00 | 0x40 | 0x80)
 }
@@ -114,7 +123,7 @@ fn protect_valid(data: u8) -> bool {
 /// Whether the first data byte is valid for `code`. Words: any.
 fn data_valid(code: u8, data: &[u8]) -> bool {
     match code {
-        0x00 => data[0] <= 7,
+        0x00 => page_valid(data[0]),
         0x01 => operation_valid(data[0]),
         0x10 => protect_valid(data[0]),
         _ => match response_of(code) {
@@ -349,7 +358,7 @@ impl Device {
 
     /// False for the states that get answer 15.
     pub fn valid(&self) -> bool {
-        self.page <= 7
+        page_valid(self.page)
             && protect_valid(self.protect)
             && self.account.valid()
             && self.pages.iter().all(Page::valid)
@@ -478,7 +487,8 @@ impl Device {
         Ok(())
     }
 
-    /// The command of a read whose reply carries data, or answers 15, 1, 2, 3.
+    /// The command of a read whose reply carries data, or answers 15, 1, 2, 3, 9.
+    /// With all pages selected a paged code has no one value to give, whatever n.
     fn judge_read(&self, header: &[u8]) -> Result<&'static Command, u8> {
         if !self.valid() {
             return Err(15);
@@ -493,13 +503,24 @@ impl Device {
             return Err(2);
         }
         match command::lookup(header[1]) {
-            Some(command) if command.read() => Ok(command),
+            Some(command) if command.read() => match self.page {
+                ALL_PAGES if command.paged() => Err(9),
+                _ => Ok(command),
+            },
             _ => Err(3),
         }
     }
 
+    /// The pages that a paged write acts on.
+    fn selected(&self) -> Range<usize> {
+        match usize::from(self.page) {
+            page if self.page != ALL_PAGES => page..page + 1,
+            _ => 0..self.pages.len(),
+        }
+    }
+
     /// Carries out an accepted write. PAGE, WRITE_PROTECT and STATUS_CML touch no
-    /// page; the others bring the selected page up to date. After a clearing,
+    /// page; the others bring the selected pages up to date. After a clearing,
     /// whatever it cleared, the alert is up exactly when any bit stands anywhere.
     fn carry_out(&mut self, command: &Command, data: &[u8]) {
         match command.code {
@@ -507,9 +528,10 @@ impl Device {
             0x10 => self.protect = data[0],
             0x7E => self.cml &= !data[0],
             code => {
-                let selected = usize::from(self.page);
-                self.pages[selected].store(code, data);
-                self.bring_up_to_date(selected);
+                for page in self.selected() {
+                    self.pages[page].store(code, data);
+                    self.bring_up_to_date(page);
+                }
             }
         }
         if command.code == 0x03 {
@@ -561,26 +583,32 @@ impl Device {
         }
     }
 
-    /// The data of a readable code.
+    /// The data of a readable code; a paged one only with one page selected.
     fn read_data(&self, code: u8) -> [u8; 7] {
-        let page = &self.pages[usize::from(self.page)];
         match code {
             0x00 => one(self.page),
-            0x01 => one(page.operation),
             0x10 => one(self.protect),
             0x19 => one(CAPABILITY),
             0x20 => one(VOUT_MODE),
+            0x7E => one(self.cml),
+            0x86 => self.account.bytes(),
+            0x98 => one(REVISION),
+            _ => self.page_data(&self.pages[usize::from(self.page)], code),
+        }
+    }
+
+    /// The data of a paged code.
+    fn page_data(&self, page: &Page, code: u8) -> [u8; 7] {
+        match code {
+            0x01 => one(page.operation),
             0x21 => two(page.vout_command),
             0x78 => one(self.status_byte(page)),
             0x79 => two(self.status_word(page)),
             0x7A..=0x7D => one(page.status[usize::from(code - 0x7A)]),
-            0x7E => one(self.cml),
-            0x86 => self.account.bytes(),
             0x88 => two(page.latest(VIN)),
             0x8B => two(page.latest(VOUT)),
             0x8C => two(page.latest(IOUT)),
             0x8D => two(page.latest(TEMPERATURE)),
-            0x98 => one(REVISION),
             _ => match (limit_of(code), response_of(code)) {
                 (Some(cause), _) => two(page.limits[cause]),
                 (_, Some(cause)) => one(page.responses[cause]),

@@ -182,7 +182,7 @@ fn answer_8_by_level() {
 fn answer_9_by_data() {
     for (code, _) in WRITTEN.into_iter().filter(|row| row.1 == 1) {
         let valid: &[u8] = match code {
-            0x00 => &[0, 1, 2, 3, 4, 5, 6, 7],
+            0x00 => &[0, 1, 2, 3, 4, 5, 6, 7, 0xFF],
             0x01 => &[0x00, 0x40, 0x80],
             0x10 => &[0x00, 0x20, 0x40, 0x80],
             0x47 => &[0x00, 0xC0],

@@ -28,7 +28,7 @@ fn all_calls_get_15(mut state: Device) {
 #[test]
 fn answer_15_unpaged_fields() {
     all_calls_get_15(device(|device| device.page = 8));
-    all_calls_get_15(device(|device| device.page = 255));
+    all_calls_get_15(device(|device| device.page = 254));
     all_calls_get_15(device(|device| device.protect = 0x10));
     all_calls_get_15(device(|device| device.protect = 0xC0));
     all_calls_get_15(device(|device| device.account.accumulator = 0x8000));
@@ -205,7 +205,12 @@ fn present_causes_have_their_bits_after_every_call() {
                 let (code, data) = WRITTEN[next(WRITTEN.len() as u64) as usize];
                 let mut bytes = vec![code, (next(8) << 5) as u8, next(256) as u8];
                 if code == 0x00 {
-                    bytes[1] >>= 5;
+                    // Pages 0 to 6, or all.
+                    bytes[1] = if bytes[1] == 0xE0 {
+                        0xFF
+                    } else {
+                        bytes[1] >> 5
+                    };
                 }
                 bytes.truncate(1 + data);
                 let protected = code == 0x10;

@@ -147,7 +147,7 @@ fn length(code: u8) -> usize {
     command::lookup(code).map_or(1, |command| command.data)
 }
 
-/// The page selected, in any state.
+/// The page selected, or one where there is none or every one is.
 fn selected(device: &Device) -> usize {
     usize::from(device.unpaged.page % 8)
 }
@@ -156,7 +156,7 @@ fn selected(device: &Device) -> usize {
 fn data(random: &mut Random, device: &Device, code: u8) -> Vec<u8> {
     let page = &device.pages[selected(device)];
     let byte = match code {
-        0x00 => random.below(8) as u8,
+        0x00 => states::selection(random),
         0x01 => random.pick(&[0x00, 0x40, 0x80, 0x80]),
         0x10 => random.pick(&[0x00, 0x00, 0x00, 0x20, 0x40, 0x80]),
         0x41 | 0x47 | 0x50 | 0x54 | 0x56 | 0x5A => random.pick(&[0x00, 0x80, 0xC0]),

@@ -93,11 +93,20 @@ pub fn account(random: &mut Random) -> Account {
     }
 }
 
+/// Valid data of PAGE: a page, or FFh for every one.
+pub fn selection(random: &mut Random) -> u8 {
+    if random.once_in(4) {
+        0xFF
+    } else {
+        random.below(8) as u8
+    }
+}
+
 /// A state that gets no answer 15; every other field holds anything.
 pub fn valid(random: &mut Random) -> Device {
     Device {
         unpaged: Unpaged {
-            page: random.below(8) as u8,
+            page: selection(random),
             protect: random.pick(&[0x00, 0x00, 0x00, 0x20, 0x40, 0x80]),
             cml: register(random),
             alert: random.bool(),
@@ -124,7 +133,7 @@ pub fn one_field_invalid(random: &mut Random) -> Device {
     let mut device = valid(random);
     let page = random.below(8);
     match random.below(5) {
-        0 => device.unpaged.page = random.pick(&[8, 9, 0x80, 0xFF]),
+        0 => device.unpaged.page = random.pick(&[8, 9, 0x80, 0xFE]),
         1 => device.unpaged.protect = random.pick(&[0x01, 0x10, 0x21, 0x60, 0xA0, 0xC0, 0xFF]),
         2 => device.unpaged.energy = account_beyond(random),
         3 => device.pages[page].operation = random.pick(&[0x01, 0x20, 0x41, 0x81, 0xC0, 0xFF]),

@@ -2,3 +2,4 @@ pub mod Table
 pub mod Meaning
 pub mod Agreement
 pub mod Causes
+pub mod Paged

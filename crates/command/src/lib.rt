@@ -1,5 +1,6 @@
-// The command codes: their table of access and data length, and what each of them means.
+// The command codes: their table of access and data length, what each of them means, and which act on a page.
 pub mod meaning;
+pub mod paged;
 pub mod table;
 
 pub use meaning::Command;

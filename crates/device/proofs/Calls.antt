@@ -1,22 +1,25 @@
 -- What the functions of the calls share: the answer, the page that a call needs, the state left and the reply.
 -- Assumes nothing.
 use Prim.Native.Nat.{ℕ, _%_, _<_}
-use mathlib.Core.Path.{_≡_, refl, ap, _∙_}
-use mathlib.Core.Bool.{Bool, true, cond}
+use mathlib.Core.Path.{_≡_, refl, sym, ap, _∙_}
+use mathlib.Core.Bool.{Bool, true, false, cond, or-false, false≢true}
 use mathlib.Core.List.{List}
 use native.Mathlib.Omega.{arith}
-use lib.Dec.{eqb, leb}
+use lib.Dec.{eqb, ltb, leb}
 use lib.ListN.{length, getD}
 use borrow.Author.Tests.{ltb-true, leb-false, eqb-true}
 use Rattle.laws.proofs.Branches.{either}
+use Rattle.command.specs.Paged.{paged}
+use Rattle.page.specs.declared.Page.{Page}
 use Rattle.page.specs.Page.{noPage}
-use Rattle.unpaged.specs.Unpaged.{validPage, cmlBits}
+use Rattle.unpaged.specs.Unpaged.{validPage, everyPage, cmlBits}
 use Rattle.unpaged.specs.Events.{measureAnswer}
-use Rattle.reads.specs.Answers.{answersData}
+use Rattle.reads.specs.Answers.{readAnswer, answersData}
 use Rattle.reads.specs.Data.{readStream}
 use Rattle.reads.specs.Reply.{stream, streamOf, replyOf}
 use Rattle.reads.specs.declared.reply.Stream.{Stream}
 use Rattle.reads.proofs.Streams.{stream-bytes}
+use Rattle.reads.proofs.EveryPage.{same-data, no-data}
 use Rattle.reads.proofs.Lengths.{stream-length, alert-length}
 use Rattle.device.specs.declared.Device.{Device}
 use Rattle.device.specs.Device.{deviceValid}
@@ -40,10 +43,14 @@ module _ (d : Device) (c : Call) where
   replied s r a e f g h = g ∙ rw (f, h, e)
 
 module _ (d : Device) where
-  -- a valid state selects a page that is there
-  pub valid-small : deviceValid d ≡ true → d .unpaged .page < length (d .pages)
+  -- PAGE of a valid state
+  pub valid-page : deviceValid d ≡ true → validPage (length (d .pages)) (d .unpaged .page) ≡ true
+  valid-page v = valid-parts d v .page
+
+  -- where not every page is selected, it is one of them
+  pub one-small : validPage (length (d .pages)) (d .unpaged .page) ≡ true → everyPage (d .unpaged) ≡ false → d .unpaged .page < length (d .pages)
   unfolding validPage
-  valid-small v = ltb-true (d .unpaged .page) (length (d .pages)) (valid-parts d v .page)
+  one-small v e = ltb-true (d .unpaged .page) (length (d .pages)) (sym (or-false (ltb (d .unpaged .page) (length (d .pages)))) ∙ (rw e at v))
 
   -- a measurement with answer 0 names one
   pub measured-small : (page quantity word : ℕ) → answered d (measure page quantity word) ≡ 0 → page < length (d .pages)
@@ -62,13 +69,27 @@ module _ (d : Device) where
   -- what is sent of the selected page, taken out of eight by its number's remainder
   pub sent-selected : (header : List ℕ) (n a : ℕ) → length (d .pages) ≡ 8 → a ≡ answered d (read header n)
       → readStream (d .unpaged) (getD (d .pages) (d .unpaged .page % 8) noPage) a (getD header 1 0) ≡ sent d (read header n) a
-  unfolding sent readStream answered answersData
+  unfolding sent readStream answered answerOf answersData
   sent-selected header n a long e =
-      either (deviceValid d) (λ v.
-      let h = valid-small v in
+      either (deviceValid d) (λ v. either (everyPage (d .unpaged)) (everywhere v) (λ one.
+      let h = one-small (valid-page v) one in
       let same : d .unpaged .page % 8 ≡ d .unpaged .page = omega arith in
-      ap (λ (i : ℕ). readStream (d .unpaged) (getD (d .pages) i noPage) a (getD header 1 0)) same)
+      ap (λ (i : ℕ). readStream (d .unpaged) (getD (d .pages) i noPage) a (getD header 1 0)) same))
       (λ v. let z : a ≡ 15 = e ∙ rw v in rw z)
+    where
+      p : Page
+      p = getD (d .pages) (d .unpaged .page % 8) noPage
+
+      q : Page
+      q = getD (d .pages) (d .unpaged .page) noPage
+
+      everywhere : deviceValid d ≡ true → everyPage (d .unpaged) ≡ true
+          → readStream (d .unpaged) p a (getD header 1 0) ≡ readStream (d .unpaged) q a (getD header 1 0)
+      everywhere v every =
+          either (paged (getD header 1 0))
+          (λ y. let read : a ≡ readAnswer (d .unpaged) header n = e ∙ rw v in
+          let none : answersData a ≡ false = ap answersData read ∙ no-data (d .unpaged) header n every y in rw none)
+          (λ n. rw (same-data (d .unpaged) p q (getD header 1 0) n))
 
   pub read-bytes : (header : List ℕ) (n a : ℕ) → streamOf (stream (sent d (read header n) a)) ≡ sent d (read header n) a
   unfolding sent

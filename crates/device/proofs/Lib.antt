@@ -2,3 +2,4 @@ pub mod States
 pub mod Refused
 pub mod OnePage
 pub mod Calls
+pub mod EveryPage

@@ -17,7 +17,7 @@ use Rattle.page.specs.Settings.{setMeasurement}
 use Rattle.page.specs.Status.{any, anyStatus, gains, risen}
 use Rattle.page.proofs.Bits.{gains-none, risen-none}
 use Rattle.unpaged.specs.declared.Unpaged.{Unpaged}
-use Rattle.unpaged.specs.Unpaged.{actsOn, withAlert}
+use Rattle.unpaged.specs.Unpaged.{everyPage, actsOn, withAlert}
 use Rattle.writes.specs.declared.asked.Write.{Write}
 use Rattle.writes.specs.Left.{pageLeft, unpagedLeft, clearing}
 use Rattle.writes.proofs.Kept.{alert-kept, cml-kept}
@@ -31,7 +31,7 @@ turned-one : (d e : Device) (k : ℕ) (q : Page) → k < length (d .pages) → e
 turned-one d e k q h cml pages =
     rw (cml, gains-none (d .unpaged .cml), pages) (pair-set noPage risen risen-none (d .pages) k q h)
 
-module _ (d : Device) (w : Write) (h : d .unpaged .page < length (d .pages)) where
+module _ (d : Device) (w : Write) (h : d .unpaged .page < length (d .pages)) (one : everyPage (d .unpaged) ≡ false) where
   abbrev k : ℕ
   k = d .unpaged .page
 
@@ -47,7 +47,7 @@ module _ (d : Device) (w : Write) (h : d .unpaged .page < length (d .pages)) whe
   selected : mapAt (actsOn (d .unpaged)) (pageLeft w) (d .pages) ≡ qs
   unfolding actsOn
   selected =
-      map-one noPage (actsOn (d .unpaged)) (pageLeft w) (d .pages) k h (eq-eqb k k refl) (λ i other. ne-eqb i k other)
+      map-one noPage (actsOn (d .unpaged)) (pageLeft w) (d .pages) k h (rw (eq-eqb k k refl)) (λ i other. rw (ne-eqb i k other, one))
 
   alert-risen : clearing w ≡ false → (v .alert || risen (pageOf d k) q) ≡ (d .unpaged .alert || turned d (writtenTo d w))
   alert-risen n =

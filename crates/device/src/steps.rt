@@ -1,6 +1,6 @@
 // The parts of a call: its answer, then what it leaves. A page is taken out, a rule works on it, and it is put back.
 ghost use mathlib.Core.Path.{_≡_};
-ghost use mathlib.Core.Bool.{false, cond, _||_};
+ghost use mathlib.Core.Bool.{true, false, cond, _||_};
 ghost use Prim.Native.Nat.{ℕ, _<_};
 ghost use lib.ListN.{length};
 ghost use Rattle.laws.specs.Lists.{anyOf};
@@ -8,7 +8,7 @@ ghost use Rattle.account.specs.Account.{sampled};
 ghost use Rattle.page.specs.Status.{any, anyStatus};
 ghost use Rattle.writes.specs.Left.{clearing};
 ghost use Rattle.reads.specs.Reply.{stream};
-ghost use Rattle.unpaged.specs.Unpaged.{withAlert, withEnergy};
+ghost use Rattle.unpaged.specs.Unpaged.{validPage, withAlert, withEnergy};
 ghost use Rattle.device.specs.Device.{device, deviceValid};
 ghost use Rattle.device.specs.Step.{write, read, measure, sample, alertResponse, answered, written, measured, effect, refusedDevice, left, sent, done, step};
 use super::Device;
@@ -60,8 +60,8 @@ fn alert_after(w: Write, u: Unpaged, ps: [Page; 8], rose: bool) -> bool
     u.alert | rose
 }
 
-// An accepted write, to the selected page. The device is copied once and changed in the copy.
-fn written(d: Device, w: Write) -> Device
+// An accepted write where one page is selected. The device is copied once and changed in the copy.
+fn written_one(d: Device, w: Write) -> Device
     requires { ⌜ (d .unpaged .page < 8) × (d .unpaged .page < length (d .pages)) ⌝ }
     ensures { λ r. ⌜ r ≡ written d w ⌝ }
 {
@@ -79,8 +79,37 @@ fn written(d: Device, w: Write) -> Device
     next
 }
 
+// An accepted write where every page is selected.
+fn written_everywhere(d: Device, w: Write) -> Device
+    requires { ⌜ d .unpaged .page ≡ 0xFF ⌝ }
+    ensures { λ r. ⌜ r ≡ written d w ⌝ }
+{
+    let u = d.unpaged;
+    let ps = d.pages;
+    let qs = pages::each_left(w, ps);
+    let v = writes::left::unpaged_left(w, u);
+    let rose = pages::any_risen(ps, qs);
+    let up = alert_after(w, v, qs, rose);
+    let mut next = v;
+    next.alert = up;
+    Device {
+        unpaged: next,
+        pages: qs,
+    }
+}
+
+fn written(d: Device, w: Write) -> Device
+    requires { ⌜ (length (d .pages) ≡ 8) × (validPage 8 (d .unpaged .page) ≡ true) ⌝ }
+    ensures { λ r. ⌜ r ≡ written d w ⌝ }
+{
+    if d.unpaged.page == 0xFF {
+        return written_everywhere(d, w);
+    }
+    written_one(d, w)
+}
+
 fn accepted(d: Device, bytes: &[u8]) -> Device
-    requires { ⌜ (d .unpaged .page < 8) × (d .unpaged .page < length (d .pages)) ⌝ }
+    requires { ⌜ (length (d .pages) ≡ 8) × (validPage 8 (d .unpaged .page) ≡ true) ⌝ }
     ensures { λ r. ⌜ r ≡ effect d (write (now (bytes .entry))) ⌝ }
 {
     let w = writes::asked::asked(bytes);

@@ -2,13 +2,13 @@
 -- Assumes nothing.
 use Prim.Native.Nat.{ℕ, zero, suc, _<_, _+_}
 use mathlib.Core.Path.{_≡_, refl, sym, ap, _∙_}
-use mathlib.Core.Bool.{Bool, true, false, cond, not, _&&_, _||_, or-true, false≢true}
+use mathlib.Core.Bool.{Bool, true, false, cond, not, _&&_, _||_, and-false, or-true, and-eq-true-iff, false≢true}
 use mathlib.Core.List.{List, [], _∷_, map}
 use native.Mathlib.Nat.{not-suc-le-zero, le-of-suc-le-suc}
 use native.Mathlib.Omega.{arith}
 use lib.Dec.{eqb, ltb, leb, ltb→lt}
 use lib.ListN.{length, getD, replicate}
-use borrow.Author.Tests.{eqb-true, eq-eqb, le-ltb}
+use borrow.Author.Tests.{eqb-true, eq-eqb, ne-eqb, le-ltb, ltb-true}
 use Rattle.laws.specs.Lists.{Bytes, anyOf}
 use Rattle.laws.proofs.Branches.{either}
 use Rattle.laws.proofs.Every.{each, agree, agree-test}
@@ -16,17 +16,18 @@ use Rattle.cause.specs.Causes.{readCodes}
 use Rattle.command.specs.declared.meaning.Command.the-variants.{Reading}
 use Rattle.command.specs.Table.{table, entryOf, lookup}
 use Rattle.command.specs.Meaning.{commandOf, readingOf}
+use Rattle.command.specs.Paged.{paged}
 use Rattle.page.specs.declared.Page.{Page}
 use Rattle.page.specs.Page.{powerOnPage, noPage}
 use Rattle.page.specs.Status.{reading}
 use Rattle.unpaged.specs.declared.Unpaged.{Unpaged}
-use Rattle.unpaged.specs.Unpaged.{actsOn, powerOnUnpaged}
+use Rattle.unpaged.specs.Unpaged.{everyPage, actsOn, powerOnUnpaged}
 use Rattle.reads.specs.Answers.{readAnswer, headerAnswer, entryAnswer}
 use Rattle.reads.specs.Data.{wordBytes, readData}
 use Rattle.reads.specs.Replies.{RepliesFollow}
 use Rattle.reads.proofs.Replies.{replies-follow}
 use Rattle.device.specs.declared.Device.{Device}
-use Rattle.device.specs.Device.{powerOn, deviceValid, pageOf}
+use Rattle.device.specs.Device.{supported, powerOn, deviceValid, pageOf}
 use Rattle.device.specs.Step.{Call, write, read, answerOf, sent, step}
 use Rattle.device.proofs.States.{answered-of}
 use Rattle.history.specs.Run.{next, answer, run, reached}
@@ -42,7 +43,18 @@ use Rattle.history.proofs.StoredSteps.{AllSized, sized-after, page-step
 
 -- ---- a read of a code that may be read replies with its data
 
-module _ (d : Device) (v : deviceValid d ≡ true) (code : ℕ) (small : code < 256) (readable : lookup code .read ≡ true) where
+-- a page is read where one is selected
+open-for : (u : Unpaged) (code i n : ℕ) → supported n ≡ true → i < n → (isUnpaged code || eqb (u .page) i) ≡ true → (everyPage u && paged code) ≡ false
+unfolding supported paged
+open-for u code i n ok small h =
+    either (isUnpaged code)
+    (λ y. either (eqb code 0x00) (λ z. rw z (and-false (everyPage u)))
+    (λ z. let w : eqb code 0x10 ≡ true = rw z at y in rw (z, w) (and-false (everyPage u))))
+    (λ z. let there : u .page ≡ i = eqb-true (u .page) i (rw z at h) in
+    let few = ltb-true n 97 (and-eq-true-iff (ltb 0 n) (ltb n 97) .0 ok .1) in
+    rw (ne-eqb (u .page) 0xFF (λ e. omega arith)))
+
+module _ (d : Device) (v : deviceValid d ≡ true) (code : ℕ) (small : code < 256) (readable : lookup code .read ≡ true) (one : (everyPage (d .unpaged) && paged code) ≡ false) where
   abbrev c : Call
   c = read (0xC0 ∷ code ∷ 0xC1 ∷ []) (lookup code .length)
 
@@ -50,7 +62,7 @@ module _ (d : Device) (v : deviceValid d ≡ true) (code : ℕ) (small : code < 
   unfolding readAnswer headerAnswer entryAnswer
   answers =
       let k = lookup code .length in
-      rw (readable, le-ltb k k (omega arith), le-ltb (k + 1) k (omega arith))
+      rw (readable, one, le-ltb k k (omega arith), le-ltb (k + 1) k (omega arith))
 
   read-answer : answer d c ≡ 0
   unfolding step answerOf
@@ -170,6 +182,7 @@ unfolding WrittenBack ReachedValid
 written-back n cs i m ok b small h selected =
     let r = each-at Row (0x00, []) stored rows m h in
     reads-data (reached n cs) (reached-valid n cs ok) (storedAt m .0) (stored-byte m h) (stored-read m h)
+    (open-for (reached n cs .unpaged) (storedAt m .0) i n ok small selected)
     (latest (stores i (storedAt m .0)) writtenData (powerOn n) cs (storedAt m .1))
     (reads-field n cs i b small (storedAt m .0) (storedAt m .1) (r .field) (r .powered) selected)
 
@@ -187,6 +200,11 @@ module _ (d : Device) (s : List ℕ) (z : answer d (write s) ≡ 0) (code : ℕ)
       page-after-write d s z
       ∙ rw (same, either (eqb code 0x00) (λ y. absurd (false≢true (sym p ∙ rw y))) (λ n. n))
 
+  selected-still : (isUnpaged code || eqb (e .unpaged .page) (d .unpaged .page)) ≡ true
+  selected-still =
+      either (isUnpaged code) (λ y. rw y)
+      (λ n. rw n (eq-eqb (e .unpaged .page) (d .unpaged .page) (same-page n)))
+
   reads-it : Field code → AllSized d → d .unpaged .page < length (d .pages) → Bytes s
       → readData (e .unpaged) (pageOf e (e .unpaged .page)) (commandOf code) ≡ writtenData (write s)
   reads-it (onPage f) g small b =
@@ -203,6 +221,7 @@ write-then-read n cs s m ok b h same small z =
     let k = kept-in-runs (Kept n) (kept-after n) (powerOn n) cs (powered-kept n) in
     rw same
     (reads-data (next d (write s)) (valid-after d (write s) (reached-valid n cs ok)) (storedAt m .0) (stored-byte m h) (stored-read m h)
+    (open-for (next d (write s) .unpaged) (storedAt m .0) (d .unpaged .page) n ok small (selected-still d s z (storedAt m .0) same))
     (writtenData (write s))
     (reads-it d s z (storedAt m .0) same (each-at Row (0x00, []) stored rows m h .field) (k .sized) (rw (k .whole) small) b))
 
@@ -235,6 +254,7 @@ unfolding MeasuredBack ReachedValid
 measured-back n cs i q ok small few selected =
     let d = reached n cs in
     reads-data d (reached-valid n cs ok) (getD readCodes q 0) (read-byte q few) (read-read q few)
+    (open-for (d .unpaged) (getD readCodes q 0) i n ok small (rw (eq-eqb (d .unpaged .page) i selected) (or-true (isUnpaged (getD readCodes q 0)))))
     (wordBytes (latest (measures i q) measuredWord (powerOn n) cs 0))
     (read-data q few (d .unpaged) (pageOf d (d .unpaged .page))
     ∙ ap (λ (j : ℕ). wordBytes (reading (pageOf d j) q)) selected

@@ -147,7 +147,7 @@ powered n h =
     parts-valid (powerOn n)
     (record {
       number = rw long h;
-      page = rw long (and-eq-true-iff (ltb 0 n) (ltb n 97) .0 h .0);
+      page = rw long (ap (λ (b : Bool). b || false) (and-eq-true-iff (ltb 0 n) (ltb n 97) .0 h .0));
       protect = refl;
       energy = refl;
       pages = all-replicate pageValid n powerOnPage powered-valid;

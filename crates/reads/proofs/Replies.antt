@@ -91,13 +91,13 @@ module _ (u : Unpaged) (p : Page) (header : List ℕ) (n : ℕ) (byte : Bytes he
   unfolding AnswersApply
   below e =
       ltb-true n (due header)
-      (sym (or-false (ltb n (due header))) ∙ given-applies (readLines header n) 10 (omega arith) (sym (answers-apply u header n) ∙ e))
+      (sym (or-false (ltb n (due header))) ∙ given-applies (readLines u header n) 10 (omega arith) (sym (answers-apply u header n) ∙ e))
 
   above : answer ≡ 11 → due header + 1 < n
   unfolding AnswersApply
   above e =
       ltb-true (due header + 1) n
-      (sym (or-false (ltb (due header + 1) n)) ∙ given-applies (readLines header n) 11 (omega arith) (sym (answers-apply u header n) ∙ e))
+      (sym (or-false (ltb (due header + 1) n)) ∙ given-applies (readLines u header n) 11 (omega arith) (sym (answers-apply u header n) ∙ e))
 
   replies : Reply answer (code header) (due header) n bytes (replyOf (readStream u p answer (code header)) n)
   unfolding readStream checked answersData

@@ -8,7 +8,9 @@ use mathlib.Core.List.{List, [], _∷_}
 use lib.ListN.{length, getD}
 use lib.Dec.{ltb, eqb}
 use Rattle.command.specs.Table.{lookup}
+use Rattle.command.specs.Paged.{paged}
 use Rattle.unpaged.specs.declared.Unpaged.{Unpaged}
+use Rattle.unpaged.specs.Unpaged.{everyPage}
 use Rattle.unpaged.specs.Applies.{Line, lowest}
 use Rattle.reads.specs.Answers.{readAnswer}
 
@@ -24,14 +26,15 @@ abbrev pub isHeader : List ℕ → Bool
 isHeader header = eqb (length header) 3 && eqb (getD header 0 0) 0xC0 && eqb (getD header 2 0) 0xC1
 
 -- the answers of a read of n bytes (data sheet 11.3)
-abbrev pub readLines : List ℕ → ℕ → List Line
-readLines header n =
+abbrev pub readLines : Unpaged → List ℕ → ℕ → List Line
+readLines u header n =
     (1, not (eqb (length header) 0) && not (eqb (getD header 0 0) 0xC0))  -- not empty, and the first byte is not C0h
     ∷ (2, not (isHeader header))  -- empty, or other than C0h, code, C1h
     ∷ (3, not (lookup (code header) .read))  -- the table does not let the code be read
+    ∷ (9, everyPage u && paged (code header))  -- every page is selected, and the code is one of a page
     ∷ (10, ltb n (due header))  -- n below the data
     ∷ (11, ltb (due header + 1) n)  -- n above data and PEC
     ∷ []
 
 unfoldable pub AnswersApply : Type 0
-AnswersApply = (u : Unpaged) (header : List ℕ) (n : ℕ) → readAnswer u header n ≡ lowest (readLines header n)
+AnswersApply = (u : Unpaged) (header : List ℕ) (n : ℕ) → readAnswer u header n ≡ lowest (readLines u header n)

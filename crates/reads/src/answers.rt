@@ -5,12 +5,15 @@ use command::Entry;
 use unpaged::Unpaged;
 use writes::bytes::byte_at;
 
-// A read of n bytes of a code whose table entry is e.
-fn entry_answer(e: Entry, n: usize) -> u8
-    ensures { λ r. ⌜ r ≡ entryAnswer e n ⌝ }
+// A read of n bytes of a code whose table entry is e. A page cannot be read where every page is selected.
+fn entry_answer(everywhere: bool, e: Entry, n: usize) -> u8
+    ensures { λ r. ⌜ r ≡ entryAnswer everywhere e n ⌝ }
 {
     if !e.read {
         return answer::UNSUPPORTED_COMMAND;
+    }
+    if everywhere {
+        return answer::INVALID_DATA;
     }
     let length = e.length as usize;
     if n < length {
@@ -28,7 +31,8 @@ fn header_answer(u: Unpaged, header: &[u8], n: usize) -> u8
 {
     let code = byte_at(header, 1);
     let e = command::lookup(code);
-    entry_answer(e, n)
+    let everywhere = (u.page == 0xFF) & command::paged::is_paged(code);
+    entry_answer(everywhere, e, n)
 }
 
 // The answer of a read: its header is the write address, a code and the read address; n bytes are clocked.

@@ -33,13 +33,16 @@ powerOnUnpaged = record { page = 0; protect = 0; cml = 0; alert = false; energy 
 unfoldable pub validProtect : ℕ → Bool
 validProtect x = eqb x 0x00 || eqb x 0x20 || eqb x 0x40 || eqb x 0x80
 
--- the valid data of PAGE in a device with n pages: each page's number
+-- the valid data of PAGE in a device with n pages: each page's number, and FFh for every page
 unfoldable pub validPage : ℕ → ℕ → Bool
-validPage n x = ltb x n
+validPage n x = ltb x n || eqb x 0xFF
 
--- the pages that a write of a paged code acts on, by their numbers: the selected one (data sheet 3.2)
+abbrev pub everyPage : Unpaged → Bool
+everyPage u = eqb (u .page) 0xFF
+
+-- the pages that a write of a paged code acts on, by their numbers: the selected one, or every one (data sheet 3.8)
 unfoldable pub actsOn : Unpaged → ℕ → Bool
-actsOn u i = eqb i (u .page)
+actsOn u i = eqb i (u .page) || everyPage u
 
 -- PAGE, with n pages, and WRITE_PROTECT are valid data, and the account is in range (data sheet 12.2)
 unfoldable pub unpagedValid : ℕ → Unpaged → Bool

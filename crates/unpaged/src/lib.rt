@@ -31,11 +31,11 @@ pub fn power_on_unpaged() -> Unpaged
     }
 }
 
-// PAGE of a device with n pages.
+// PAGE of a device with n pages: a page, or FFh for every one.
 pub fn valid_page(n: u8, x: u8) -> bool
     ensures { λ r. ⌜ r ≡ validPage n x ⌝ }
 {
-    x < n
+    (x < n) | (x == 0xFF)
 }
 
 pub fn valid_protect(x: u8) -> bool

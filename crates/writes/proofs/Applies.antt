@@ -2,7 +2,7 @@
 -- Assumes nothing.
 use Prim.Native.Nat.{ℕ, _+_, _-_, _<_}
 use mathlib.Core.Path.{_≡_, refl, sym, ap, _∙_}
-use mathlib.Core.Bool.{Bool, true, false, cond, not, _&&_}
+use mathlib.Core.Bool.{Bool, true, false, cond, not, _&&_, _||_}
 use mathlib.Core.List.{List, [], _∷_}
 use native.Mathlib.Omega.{arith}
 use lib.ListN.{length, getD, take}
@@ -44,7 +44,7 @@ module _ (c : ℕ) (byte : c < 256) where
 -- the valid bytes of a group
 abbrev validIn : ℕ → ℕ → ℕ → Bool
 validIn group n x =
-    cond (eqb group 0) (ltb x n)
+    cond (eqb group 0) (ltb x n || eqb x 0xFF)
     (cond (eqb group 1) (isIn x (0x00 ∷ 0x40 ∷ 0x80 ∷ []))
     (cond (eqb group 2) (isIn x (0x00 ∷ 0x20 ∷ 0x40 ∷ 0x80 ∷ []))
     (cond (eqb group 3) (isIn x (0x00 ∷ 0x80 ∷ 0xC0 ∷ []))

@@ -29,7 +29,7 @@ permittedAt level code = eqb level 0x00 || isIn code (0x03 ∷ 0x7A ∷ 0x7B ∷
 -- the first data byte x is valid for a code, in a device with n pages; words may be any (data sheet 3.1, 3.6)
 abbrev pub validFor : ℕ → ℕ → ℕ → Bool
 validFor n code x =
-    cond (eqb code 0x00) (ltb x n)
+    cond (eqb code 0x00) (ltb x n || eqb x 0xFF)
     (cond (eqb code 0x01) (isIn x (0x00 ∷ 0x40 ∷ 0x80 ∷ []))
     (cond (eqb code 0x10) (isIn x (0x00 ∷ 0x20 ∷ 0x40 ∷ 0x80 ∷ []))
     (cond (isIn code (0x41 ∷ 0x50 ∷ 0x54 ∷ 0x56 ∷ 0x5A ∷ [])) (isIn x (0x00 ∷ 0x80 ∷ 0xC0 ∷ []))

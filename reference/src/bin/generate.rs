@@ -4,7 +4,7 @@
 //! does not stay protected, tripped or full of status bits.
 
 use reference::command::{self, Command};
-use reference::device::{Device, TEMPERATURE, VIN, VOUT};
+use reference::device::{Device, Page, ALL_PAGES, TEMPERATURE, VIN, VOUT};
 use reference::frame;
 use reference::linear11;
 use reference::pec::pec;
@@ -94,7 +94,11 @@ impl Generator {
         if self.model.protect != 0 && self.random.percent(8) {
             return self.write_line(0x10, &[0x00]);
         }
-        if !self.selected_page_supplies() && self.random.percent(4) {
+        if self.model.page == ALL_PAGES && self.random.percent(10) {
+            let page = self.random.below(8) as u8;
+            return self.write_line(0x00, &[page]);
+        }
+        if !self.some_page().supplies() && self.random.percent(4) {
             self.push_write(&[0x01, 0x80]);
             return self.write_line(0x01, &[0x00]);
         }
@@ -115,8 +119,17 @@ impl Generator {
         }
     }
 
-    fn selected_page_supplies(&self) -> bool {
-        self.model.pages[usize::from(self.model.page)].supplies()
+    /// The number of the selected page, or of any page when all are selected.
+    fn some_number(&mut self) -> u8 {
+        match self.model.page {
+            ALL_PAGES => self.random.below(8) as u8,
+            page => page,
+        }
+    }
+
+    /// That page, as it stands.
+    fn some_page(&mut self) -> Page {
+        self.model.pages[usize::from(self.some_number())]
     }
 
     // Words.
@@ -178,7 +191,7 @@ impl Generator {
 
     /// A limit to write on the selected page.
     fn limit_word(&mut self, cause: usize) -> u16 {
-        let page = self.model.pages[usize::from(self.model.page)];
+        let page = self.some_page();
         let quantity = QUANTITIES[cause];
         let latest = page.readings[quantity].word;
         match self.random.below(20) {
@@ -194,7 +207,7 @@ impl Generator {
 
     fn measurement(&mut self) -> Vec<u8> {
         let page = match self.random.below(20) {
-            0..=11 => self.model.page,
+            0..=11 => self.some_number(),
             12..=18 => self.random.below(8) as u8,
             _ => self.random.pick(&[8, 9, 0x60, 0xFF]),
         };
@@ -236,8 +249,8 @@ impl Generator {
             return vec![self.random.pick(&[0x00, 0x80, 0xC0, 0xC0])];
         }
         match code {
-            0x00 if valid => vec![self.random.below(8) as u8],
-            0x00 => vec![self.random.pick(&[8, 9, 0x80, 0xFF])],
+            0x00 if valid => vec![self.page_data()],
+            0x00 => vec![self.random.pick(&[8, 9, 0x80, 0xFE])],
             0x01 if valid => vec![self.random.pick(&[0x00, 0x40, 0x80, 0x80, 0x80])],
             0x10 if valid => vec![self.random.pick(&[0x00, 0x00, 0x20, 0x40, 0x80])],
             0x7A..=0x7E => vec![self.ones(code)],
@@ -248,11 +261,19 @@ impl Generator {
         }
     }
 
+    /// PAGE data: one page, or at times all of them.
+    fn page_data(&mut self) -> u8 {
+        match self.random.below(5) {
+            0 => ALL_PAGES,
+            _ => self.random.below(8) as u8,
+        }
+    }
+
     /// Ones for a status register: all that stand, some of them, others, or any.
     fn ones(&mut self, code: u8) -> u8 {
         let standing = match code {
             0x7E => self.model.cml,
-            _ => self.model.pages[usize::from(self.model.page)].status[usize::from(code - 0x7A)],
+            _ => self.some_page().status[usize::from(code - 0x7A)],
         };
         match self.random.below(8) {
             0 => 0x00,
@@ -350,7 +371,7 @@ impl Generator {
     fn clear_faults(&mut self) -> Vec<u8> {
         if self.random.percent(40) {
             // On another page, and with the alert looked at afterwards.
-            let page = self.random.below(8) as u8;
+            let page = self.page_data();
             let clear = self.write_line(0x03, &[]);
             self.pending.push_back(clear);
             self.pending.push_back(frame_line(0x05, &[1]));
@@ -377,9 +398,9 @@ impl Generator {
 
     // Rows of frames.
 
-    /// Takes all faults from one page, gives it new responses and switches it on.
+    /// Takes all faults from one page or from all, gives new responses and switches on.
     fn calm_page(&mut self) -> Vec<u8> {
-        let page = self.random.below(8) as u8;
+        let page = self.page_data();
         let defaults = Device::power_on().pages[0].limits;
         self.push_write(&[0x00, page]);
         for (code, limit) in LIMITS.into_iter().zip(defaults) {
@@ -390,9 +411,16 @@ impl Generator {
             let response = self.random.pick(&[0x00, 0x00, 0x80, 0xC0, 0xC0]);
             self.push_write(&[code, response]);
         }
-        for (quantity, word) in (0..).zip(CALM) {
-            self.pending
-                .push_back(measurement_line(page, quantity, word));
+        let measured = if page == ALL_PAGES {
+            0..8
+        } else {
+            page..page + 1
+        };
+        for page in measured {
+            for (quantity, word) in (0..).zip(CALM) {
+                self.pending
+                    .push_back(measurement_line(page, quantity, word));
+            }
         }
         self.push_write(&[0x01, 0x00]);
         self.push_write(&[0x01, 0x80]);
@@ -406,14 +434,14 @@ impl Generator {
         self.pending.push_back(frame_line(0x01, &whole));
     }
 
-    /// Reads every readable code, with PEC, of one page.
+    /// Reads every readable code, with PEC, of one page or, refused, of all.
     fn snapshot(&mut self) -> Vec<u8> {
         for command in command::TABLE.iter().filter(|command| command.read()) {
             let n = command.data as u8 + 1;
             let line = frame_line(0x02, &[n, 0xC0, command.code, 0xC1]);
             self.pending.push_back(line);
         }
-        frame_line(0x01, &[0xC0, 0x00, self.random.below(8) as u8])
+        frame_line(0x01, &[0xC0, 0x00, self.page_data()])
     }
 
     fn samples_in_a_row(&mut self) -> Vec<u8> {

@@ -4,7 +4,7 @@ use lib.ListN.{length}
 use Rattle.laws.proofs.Folds.{length-mapped}
 use mathlib.Core.Path.{_≡_, sym, ap, _∙_}
 use native.Mathlib.Omega.{arith}
-use Rattle.device.proofs.Calls.{valid-small, stepped}
+use Rattle.device.proofs.Calls.{valid-page, stepped}
 use Rattle.device.proofs.States.{answered-valid}
 use borrow.Author.Tests.{eq-eqb, ne-eqb}
 use Rattle.device.specs.Step.{write, left}
@@ -17,8 +17,7 @@ accepted-requires c κs =
     let a = c .before .before .args in
     let long : length (a .d .pages) ≡ 8 = search (needs, length-mapped) in
     let valid = answered-valid (a .d) (write _) (sym (c .before .before .pre) ∙ c .if1 .taken) in
-    let small = valid-small (a .d) valid in
-    (omega arith, small)
+    (long, rw long at (valid-page (a .d) valid))
 
 returns : tie.Need-returns
 unfolding left

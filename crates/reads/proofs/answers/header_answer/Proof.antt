@@ -11,6 +11,9 @@ byte-at-requires c κs = search needs
 lookup-requires : tie.Need-lookup-requires
 lookup-requires c κs = search needs
 
+is-paged-requires : tie.Need-is-paged-requires
+is-paged-requires c κs = search needs
+
 entry-answer-requires : tie.Need-entry-answer-requires
 entry-answer-requires c κs = search needs
 
@@ -20,4 +23,5 @@ returns c = cc
 
 pub header-answer-spec : {M : Type 1} → statement M
 header-answer-spec =
-    tie.close (tie.spec byte-at-requires lookup-requires entry-answer-requires returns)
+    tie.close
+    (tie.spec byte-at-requires lookup-requires is-paged-requires entry-answer-requires returns)
