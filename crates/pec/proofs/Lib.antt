@@ -3,3 +3,4 @@ pub mod Laws
 pub mod Bits
 pub mod Window
 pub mod Burst
+pub mod Rule

@@ -24,11 +24,11 @@ xor-assoc a =
     ∙ sym (xor-step n (bitXor b c))) a
 
 -- exclusive-or with one operand undoes itself, so it is injective
+pub xor-undone : (a z : ℕ) → bitXor a (bitXor a z) ≡ z
+xor-undone a z = sym (xor-assoc a a z) ∙ ap (λ (w : ℕ). bitXor w z) (xor-self a)
+
 pub xor-cancel : (a x y : ℕ) → bitXor a x ≡ bitXor a y → x ≡ y
-xor-cancel a x y e = sym (undone x) ∙ ap (bitXor a) e ∙ undone y
-  where
-    undone : (z : ℕ) → bitXor a (bitXor a z) ≡ z
-    undone z = sym (xor-assoc a a z) ∙ ap (λ (w : ℕ). bitXor w z) (xor-self a)
+xor-cancel a x y e = sym (xor-undone a x) ∙ ap (bitXor a) e ∙ xor-undone a y
 
 pub xor-swap : (a b c : ℕ) → bitXor (bitXor a b) c ≡ bitXor (bitXor a c) b
 xor-swap a b c = xor-assoc a b c ∙ ap (bitXor a) (xor-comm b c) ∙ sym (xor-assoc a c b)

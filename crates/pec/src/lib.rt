@@ -1,4 +1,6 @@
 // The packet check (PEC) of SMBus 2.0: CRC-8, polynomial x^8+x^2+x+1, high bit first, start 0.
+mod table; // table.rt: what eight bits make of a byte, looked up
+
 ghost use mathlib.Core.Path.{_≡_};
 ghost use Rattle.pec.specs.Pec.{pecBit, pecByte, pecFrom, pec};
 
@@ -9,7 +11,8 @@ pub fn pec_bit(x: u8) -> u8
     if x & 0x80 != 0 { (x << 1) ^ 7 } else { x << 1 }
 }
 
-// One byte. The loop over an `if` is the form that LLVM knows as a CRC and turns into a table.
+// One byte, bit by bit: for single bytes, and for whoever has no room for the table. The loop over an `if` is the form that LLVM knows
+// as a CRC.
 pub fn pec_byte(crc: u8, b: u8) -> u8
     ensures { λ r. ⌜ r ≡ pecByte crc b ⌝ }
 {
@@ -22,14 +25,14 @@ pub fn pec_byte(crc: u8, b: u8) -> u8
     x
 }
 
-// The check of s, carried on from crc.
+// The check of s, carried on from crc: a look-up in the table for each byte.
 pub fn pec_from(crc: u8, s: &[u8]) -> u8
     ensures { λ r. ⌜ r ≡ pecFrom crc (now (s .entry)) ⌝ }
 {
     let mut r = crc;
     let mut i = 0;
     while i < s.len() {
-        r = pec_byte(r, s[i]);
+        r = table::byte(r, s[i]);
         i += 1;
     }
     r

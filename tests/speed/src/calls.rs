@@ -21,26 +21,31 @@ type Reply = [u8; 8];
 pub fn pec_of(name: &str, length: usize, calls: usize) {
     let mut random = Random::new(20);
     let inputs: Vec<Vec<u8>> = (0..INPUTS).map(|_| random.bytes(length)).collect();
-    let theirs = black_box(routines::pec as fn(&[u8]) -> u8);
+    let rivals: [fn(&[u8]) -> u8; 3] = [
+        routines::pec_by_table,
+        routines::pec,
+        routines::pec_bit_by_bit,
+    ];
+    let rivals = rivals.map(black_box);
     for input in &inputs {
-        assert_eq!(library::pec(input), theirs(input), "{name}");
+        for rival in rivals {
+            assert_eq!(library::pec(input), rival(input), "{name}");
+        }
     }
-    let times = race(
-        calls,
-        &mut [
-            Candidate(Box::new(|| {
-                for call in 0..calls {
-                    black_box(library::pec(&inputs[call % INPUTS]));
-                }
-            })),
-            Candidate(Box::new(|| {
-                for call in 0..calls {
-                    black_box(theirs(&inputs[call % INPUTS]));
-                }
-            })),
-        ],
-    );
-    print_row(name, &times);
+    let mut candidates = vec![Candidate(Box::new(|| {
+        for call in 0..calls {
+            black_box(library::pec(&inputs[call % INPUTS]));
+        }
+    }))];
+    for rival in rivals {
+        let inputs = &inputs;
+        candidates.push(Candidate(Box::new(move || {
+            for call in 0..calls {
+                black_box(rival(&inputs[call % INPUTS]));
+            }
+        })));
+    }
+    print_row(name, &race(calls, &mut candidates));
 }
 
 /// One batch: each call works on the state that the last one left.

@@ -1,4 +1,4 @@
-//! `speed` prints a table of nanoseconds a call; `speed BENCH REFERENCE FILE` also one of frames a second, for two programs on a frame file.
+//! `speed` prints two tables of nanoseconds a call; `speed BENCH REFERENCE FILE` also one of frames a second, for two programs on a frame file.
 //! Figures are best / median of many repetitions; a ratio over 1 says that the proved program is slower.
 
 mod calls;
@@ -8,9 +8,11 @@ mod routines;
 
 fn main() {
     println!("Best / median of {} batches.\n", race::REPETITIONS);
-    race::print_head();
+    race::print_head(&["Rust, table", "Rust, bit loop", "Rust, bit by bit"]);
     calls::pec_of("PEC, 8 bytes", 8, 2000);
     calls::pec_of("PEC, 4 KiB", 4096, 4);
+    println!();
+    race::print_head(&["Rust by value", "Rust by `&mut`"]);
     calls::write("write, limit with PEC, accepted", 0);
     calls::write("write, limit with wrong PEC, refused", 7);
     calls::read("read, STATUS_WORD", 0x79, 2);

@@ -77,22 +77,21 @@ fn figures(times: Times) -> String {
     format!("{:.1} / {:.1}", times.best, times.median)
 }
 
-pub fn print_head() {
-    println!("| Call | library, ns | Rust by value, ns | ratio | Rust by `&mut`, ns | ratio |");
-    println!("|---|---|---|---|---|---|");
+/// The head of a table: the library, and each of those that it is held against.
+pub fn print_head(rivals: &[&str]) {
+    print!("| Call | library, ns |");
+    for rival in rivals {
+        print!(" {rival}, ns | ratio |");
+    }
+    println!("\n|---|---|{}", "---|---|".repeat(rivals.len()));
 }
 
-/// A row: the library, Rust by value, and Rust by `&mut` where there is such a routine.
+/// A row: the library's times come first.
 pub fn print_row(name: &str, times: &[Times]) {
-    let (ours, value) = (times[0], times[1]);
-    let (place, place_ratio) = match times.get(2) {
-        Some(&place) => (figures(place), ratio(ours, place)),
-        None => (String::new(), String::new()),
-    };
-    println!(
-        "| {name} | {} | {} | {} | {place} | {place_ratio} |",
-        figures(ours),
-        figures(value),
-        ratio(ours, value)
-    );
+    let ours = times[0];
+    print!("| {name} | {} |", figures(ours));
+    for &rival in &times[1..] {
+        print!(" {} | {} |", figures(rival), ratio(ours, rival));
+    }
+    println!();
 }

@@ -4,6 +4,7 @@
 use reference::device::Device;
 use reference::pec;
 use reference::totalizer::Totalizer;
+use std::arch::asm;
 
 pub struct Done {
     pub device: Device,
@@ -15,9 +16,57 @@ pub struct Taken {
     pub answer: u8,
 }
 
+/// The loop over bytes and bits. LLVM knows it as a CRC and makes a table of it.
 #[inline(never)]
 pub fn pec(bytes: &[u8]) -> u8 {
     pec::pec(bytes)
+}
+
+/// The same loop with something in it that LLVM cannot see through: no instruction, and no table.
+#[inline(never)]
+pub fn pec_bit_by_bit(bytes: &[u8]) -> u8 {
+    let mut crc: u8 = 0;
+    for &byte in bytes {
+        crc ^= byte;
+        for _ in 0..8 {
+            let out = crc & 0x80 != 0;
+            crc <<= 1;
+            if out {
+                crc ^= 0x07;
+            }
+            unsafe {
+                asm!("/* {0} */", inout(reg_byte) crc, options(pure, nomem, nostack, preserves_flags));
+            }
+        }
+    }
+    crc
+}
+
+/// What eight bits make of each byte.
+static TABLE: [u8; 256] = {
+    let mut table = [0; 256];
+    let mut index = 0;
+    while index < table.len() {
+        let mut crc = index as u8;
+        let mut bit = 0;
+        while bit < 8 {
+            crc = (crc << 1) ^ ((crc >> 7) * 0x07);
+            bit += 1;
+        }
+        table[index] = crc;
+        index += 1;
+    }
+    table
+};
+
+/// A look-up a byte.
+#[inline(never)]
+pub fn pec_by_table(bytes: &[u8]) -> u8 {
+    let mut crc: u8 = 0;
+    for &byte in bytes {
+        crc = TABLE[usize::from(crc ^ byte)];
+    }
+    crc
 }
 
 pub mod by_value {

@@ -29,11 +29,11 @@ abbrev μ-loop : tie.MeasureT-loop
 loop-holds : tie.Need-loop-holds Inv-loop μ-loop
 loop-holds c = (omega arith, refl)
 
-shared-slice-read-pec-byte : tie.Need-shared-slice-read-pec-byte Inv-loop μ-loop
-shared-slice-read-pec-byte c = omega arith
+shared-slice-read-byte : tie.Need-shared-slice-read-byte Inv-loop μ-loop
+shared-slice-read-byte c = omega arith
 
-pec-byte-requires : tie.Need-pec-byte-requires Inv-loop μ-loop
-pec-byte-requires c κs = search needs
+byte-requires : tie.Need-byte-requires Inv-loop μ-loop
+byte-requires c κs = search needs
 
 add-i : tie.Need-add-i Inv-loop μ-loop
 add-i c = omega arith
@@ -56,8 +56,8 @@ pec-from-spec =
     Inv-loop
     μ-loop
     loop-holds
-    shared-slice-read-pec-byte
-    pec-byte-requires
+    shared-slice-read-byte
+    byte-requires
     add-i
     loop-less
     loop-again
