@@ -1,10 +1,11 @@
-/* Tongsorrel for C and C++: the functions of libtongsorrel.a. x86-64 Linux; the archive calls nothing but memcpy.
+/* Tongsorrel for C and C++: the functions of libtongsorrel.a, and of liblent.a those named tongsorrel_lent_... x86-64 Linux; the archives call
+ * nothing but memcpy.
  *
  * Each function is proved: for all arguments it gives exactly the result named at it, writes nothing but what is named, and ends.
  * Numbers such as 7.6 are clauses of docs/DATASHEET.md.
  *
  * What the caller owes:
- *   - A pointer is not NULL, not even beside a length of 0, and that many bytes stand behind it.
+ *   - A pointer is not NULL, not even beside a length of 0, and that many bytes, or page records, stand behind it.
  *   - A buffer that is written overlaps no other argument, and nothing else uses it while the function runs.
  *   - A bool holds 0 or 1. Every other field may hold anything (12.1).
  * The functions keep nothing between calls and share nothing, so they may run in any number of threads and in signal handlers.
@@ -201,6 +202,45 @@ tongsorrel_done tongsorrel_alert_response(tongsorrel_device device, uint8_t *rep
 /* Whether the firmware keeps the supply of a page switched on (7.6, 7.7). A page over 7 is off. It changes after a write or a measurement. */
 bool tongsorrel_supplies(tongsorrel_device device, uint8_t page);
 
+/* ---- the device over lent records: liblent.a */
+
+/* One to ninety-six supplies in an array of the firmware's own (section 16). Each call gets the unpaged part by value and hands it back in
+ * .unpaged with the answer number in .answer; the records are changed where they stand, and none is copied. Their number is the page limit:
+ * PAGE and the page of a measurement go up to number - 1, PAGE FFh selects every one. With no record or more than 96, PAGE beyond them, or a
+ * value that is not valid in any record or in the unpaged part: answer 15, and nothing changes. With eight records each call does
+ * what the one of the eight-page device does. */
+
+enum { TONGSORREL_MOST_PAGES = 96 };
+
+typedef struct tongsorrel_outcome {
+    tongsorrel_unpaged unpaged;
+    uint8_t answer;
+} tongsorrel_outcome;
+
+/* Sets every record to its power-on values, whatever it held. Answers 0, 15: with 15 no record is touched, and the unpaged part that comes back is
+ * that of power-on. */
+tongsorrel_outcome tongsorrel_lent_power_on(tongsorrel_page *pages, size_t number);
+
+/* As tongsorrel_write: changes the record that PAGE selects, or under FFh any of them. */
+tongsorrel_outcome tongsorrel_lent_write(tongsorrel_unpaged unpaged, tongsorrel_page *pages, size_t number, const uint8_t *bytes, size_t length);
+
+/* As tongsorrel_read: changes no record. */
+tongsorrel_outcome tongsorrel_lent_read(tongsorrel_unpaged unpaged, const tongsorrel_page *pages, size_t number, const uint8_t *header,
+                                        size_t header_length, uint8_t *reply, size_t n);
+
+/* As tongsorrel_measure: changes the record of that page. */
+tongsorrel_outcome tongsorrel_lent_measure(tongsorrel_unpaged unpaged, tongsorrel_page *pages, size_t number, uint8_t page, uint8_t quantity,
+                                           uint16_t word);
+
+/* As tongsorrel_sample: changes no record. */
+tongsorrel_outcome tongsorrel_lent_sample(tongsorrel_unpaged unpaged, const tongsorrel_page *pages, size_t number, uint16_t sample);
+
+/* As tongsorrel_alert_response: changes no record. */
+tongsorrel_outcome tongsorrel_lent_alert_response(tongsorrel_unpaged unpaged, const tongsorrel_page *pages, size_t number, uint8_t *reply, size_t n);
+
+/* Whether the firmware keeps the supply of a page switched on; a page beyond the records is off. */
+bool tongsorrel_lent_supplies(const tongsorrel_page *pages, size_t number, uint8_t page);
+
 /* ---- the host's totalizer */
 
 /* Totals of energy and samples since the first accepted reply. last: the account in the last accepted reply (10.1). */
@@ -264,6 +304,9 @@ TONGSORREL_AT(tongsorrel_device, pages, 12);
 TONGSORREL_SIZE(tongsorrel_done, 336);
 TONGSORREL_AT(tongsorrel_done, device, 0);
 TONGSORREL_AT(tongsorrel_done, answer, 332);
+TONGSORREL_SIZE(tongsorrel_outcome, 16);
+TONGSORREL_AT(tongsorrel_outcome, unpaged, 0);
+TONGSORREL_AT(tongsorrel_outcome, answer, 12);
 TONGSORREL_SIZE(tongsorrel_totalizer, 32);
 TONGSORREL_AT(tongsorrel_totalizer, started, 0);
 TONGSORREL_AT(tongsorrel_totalizer, closed, 1);

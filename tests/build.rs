@@ -1,4 +1,4 @@
-//! Links the archive that `rt staticlib tongsorrel` leaves in the repository's target folder.
+//! Links the archives that `rt staticlib` leaves in the repository's target folder.
 
 use std::path::Path;
 
@@ -6,9 +6,9 @@ fn main() {
     let package = std::env::var("CARGO_MANIFEST_DIR").expect("set by cargo");
     let folder = Path::new(&package).join("../target/staticlib");
     println!("cargo:rustc-link-search=native={}", folder.display());
-    println!("cargo:rustc-link-lib=static=tongsorrel");
-    println!(
-        "cargo:rerun-if-changed={}",
-        folder.join("libtongsorrel.a").display()
-    );
+    for name in ["tongsorrel", "lent"] {
+        println!("cargo:rustc-link-lib=static={name}");
+        let archive = folder.join(format!("lib{name}.a"));
+        println!("cargo:rerun-if-changed={}", archive.display());
+    }
 }

@@ -1,92 +1,15 @@
 //! The device: the library against the second program, on random states and along runs from power-on.
 
-use conformance::calls::{on_both, random_call, Call, Outcome, KINDS};
-use conformance::library::{self, Device};
+use conformance::calls::{on_both, random_call, Call};
+use conformance::library;
 use conformance::mirror;
 use conformance::random::Random;
 use conformance::states;
+use conformance::tally::{Changes, Seen};
 use reference::device;
-use std::collections::BTreeMap;
 
 const CALLS: usize = 1_000_000;
 const RUN: usize = 1_000;
-
-/// Which answers each kind of call got, and how often.
-#[derive(Default)]
-struct Seen(BTreeMap<(usize, u8), usize>);
-
-impl Seen {
-    fn note(&mut self, call: &Call, outcome: &Outcome) {
-        *self.0.entry((call.kind(), outcome.answer)).or_default() += 1;
-    }
-
-    /// Fails unless each kind got exactly these answers.
-    fn require(&self, answers: [&[u8]; 5]) {
-        for (kind, wanted) in answers.iter().enumerate() {
-            let got: Vec<u8> = self
-                .0
-                .keys()
-                .filter(|key| key.0 == kind)
-                .map(|key| key.1)
-                .collect();
-            assert_eq!(got, *wanted, "answers of {}", KINDS[kind]);
-        }
-    }
-
-    fn print(&self) {
-        for (kind, name) in KINDS.iter().enumerate() {
-            let of_kind = self.0.iter().filter(|(key, _)| key.0 == kind);
-            let counts: Vec<String> = of_kind
-                .map(|(key, count)| format!("{}: {count}", key.1))
-                .collect();
-            println!("    {name}: answers {}", counts.join(", "));
-        }
-    }
-}
-
-/// What calls did to states, so that a run that does nothing is noticed.
-#[derive(Default)]
-struct Changes {
-    tripped: usize,
-    untripped: usize,
-    bits_set: usize,
-    bits_cleared: usize,
-    alert_up: usize,
-    alert_down: usize,
-}
-
-impl Changes {
-    fn note(&mut self, before: &Device, after: &Device) {
-        for (was, is) in before.pages.iter().zip(&after.pages) {
-            self.tripped += usize::from(!was.tripped && is.tripped);
-            self.untripped += usize::from(was.tripped && !is.tripped);
-            let (was, is) = (
-                u32::from_le_bytes(was.status),
-                u32::from_le_bytes(is.status),
-            );
-            self.bits_set += usize::from(is & !was != 0);
-            self.bits_cleared += usize::from(was & !is != 0);
-        }
-        self.alert_up += usize::from(!before.unpaged.alert && after.unpaged.alert);
-        self.alert_down += usize::from(before.unpaged.alert && !after.unpaged.alert);
-    }
-
-    fn print(&self) {
-        let all = [
-            self.tripped,
-            self.untripped,
-            self.bits_set,
-            self.bits_cleared,
-            self.alert_up,
-            self.alert_down,
-        ];
-        assert!(all.iter().all(|&count| count > CALLS / 1000), "{all:?}");
-        println!(
-            "    trips {}, untrips {}, bits set {}, cleared {}, alert up {}, down {}",
-            all[0], all[1], all[2], all[3], all[4], all[5]
-        );
-    }
-}
 
 #[test]
 fn power_on() {
@@ -134,10 +57,10 @@ fn random_calls_on_random_states() {
             1 | 2 => states::one_field_invalid(&mut random),
             _ => states::valid(&mut random),
         };
-        let call = random_call(&mut random, &device);
+        let call = random_call(&mut random, &device.unpaged, &device.pages);
         let outcome = on_both(device, &call, random.u8());
         assert_eq!(outcome.answer == 15, !mirror::to_reference(&device).valid());
-        seen.note(&call, &outcome);
+        seen.note(&call, outcome.answer);
         changes.note(&device, &outcome.device);
     }
     seen.require([
@@ -151,7 +74,7 @@ fn random_calls_on_random_states() {
         "  device: {CALLS} calls on random states agree in every field, answer and reply byte"
     );
     seen.print();
-    changes.print();
+    changes.print(CALLS / 1000);
 }
 
 #[test]
@@ -161,9 +84,9 @@ fn random_runs_from_power_on() {
     for _ in 0..CALLS / RUN {
         let mut device = library::power_on();
         for _ in 0..RUN {
-            let call = random_call(&mut random, &device);
+            let call = random_call(&mut random, &device.unpaged, &device.pages);
             let outcome = on_both(device, &call, random.u8());
-            seen.note(&call, &outcome);
+            seen.note(&call, outcome.answer);
             changes.note(&device, &outcome.device);
             device = outcome.device;
         }
@@ -180,7 +103,7 @@ fn random_runs_from_power_on() {
         CALLS / RUN
     );
     seen.print();
-    changes.print();
+    changes.print(CALLS / 1000);
 }
 
 /// At each level of WRITE_PROTECT, with one page selected and with every one: every code written with every first data byte and 0 to 4

@@ -54,7 +54,7 @@ fn frames() {
         ("0207c086c1", read(0x86, 7), "0006e80300010000"),
     ];
     let mut device = library::power_on();
-    let mut second = reference::device::Device::power_on();
+    let mut second = frame::Shelf::power_on(8).expect("eight pages");
     for (line, call, expected) in rows {
         let outcome = on_both(device, &call, 0x55);
         device = outcome.device;

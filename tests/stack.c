@@ -56,6 +56,34 @@ static tongsorrel_done no_alert(tongsorrel_device d, uint8_t *r, size_t k) {
     return (tongsorrel_done){d, 0};
 }
 
+/* The calls over lent records; sample, alert response and supplies do less than these. */
+static tongsorrel_page pages[TONGSORREL_MOST_PAGES];
+static tongsorrel_outcome outcome;
+
+static tongsorrel_outcome no_lent_power_on(tongsorrel_page *p, size_t k) {
+    (void)p, (void)k;
+    NOTE();
+    return outcome;
+}
+
+static tongsorrel_outcome no_lent_write(tongsorrel_unpaged u, tongsorrel_page *p, size_t k, const uint8_t *b, size_t l) {
+    (void)p, (void)k, (void)b, (void)l;
+    NOTE();
+    return (tongsorrel_outcome){u, 0};
+}
+
+static tongsorrel_outcome no_lent_read(tongsorrel_unpaged u, const tongsorrel_page *p, size_t k, const uint8_t *h, size_t l, uint8_t *r, size_t m) {
+    (void)p, (void)k, (void)h, (void)l, (void)r, (void)m;
+    NOTE();
+    return (tongsorrel_outcome){u, 0};
+}
+
+static tongsorrel_outcome no_lent_measure(tongsorrel_unpaged u, tongsorrel_page *p, size_t k, uint8_t i, uint8_t q, uint16_t w) {
+    (void)p, (void)k, (void)i, (void)q, (void)w;
+    NOTE();
+    return (tongsorrel_outcome){u, 0};
+}
+
 static bool no_supplies(tongsorrel_device d, uint8_t p) {
     (void)d, (void)p;
     NOTE();
@@ -83,6 +111,15 @@ static bool (*volatile supplies_call)(tongsorrel_device, uint8_t);
 static tongsorrel_taken (*volatile take_call)(tongsorrel_totalizer, const uint8_t *, size_t);
 static tongsorrel_device (*volatile power_on_call)(void);
 
+static tongsorrel_outcome (*volatile lent_power_on_call)(tongsorrel_page *, size_t);
+static tongsorrel_outcome (*volatile lent_write_call)(tongsorrel_unpaged, tongsorrel_page *, size_t, const uint8_t *, size_t);
+static tongsorrel_outcome (*volatile lent_read_call)(tongsorrel_unpaged, const tongsorrel_page *, size_t, const uint8_t *, size_t, uint8_t *, size_t);
+static tongsorrel_outcome (*volatile lent_measure_call)(tongsorrel_unpaged, tongsorrel_page *, size_t, uint8_t, uint8_t, uint16_t);
+
+static void run_lent_power_on(void) { outcome = lent_power_on_call(pages, TONGSORREL_MOST_PAGES); }
+static void run_lent_write(void) { outcome = lent_write_call(device.unpaged, pages, TONGSORREL_MOST_PAGES, bytes, length); }
+static void run_lent_read(void) { outcome = lent_read_call(device.unpaged, pages, TONGSORREL_MOST_PAGES, bytes, length, reply, n); }
+static void run_lent_measure(void) { outcome = lent_measure_call(device.unpaged, pages, TONGSORREL_MOST_PAGES, number, second, word); }
 static void run_write(void) { done = write_call(device, bytes, length); }
 static void run_read(void) { done = read_call(device, bytes, length, reply, n); }
 static void run_measure(void) { done = measure_call(device, number, second, word); }
@@ -123,7 +160,7 @@ static void painted(void (*run)(void), unsigned char paint) {
 static size_t most;
 
 static void report(const char *name) {
-    printf("    %-28s %zu\n", name, deepest);
+    printf("    %-44s %zu\n", name, deepest);
     if (deepest > most) most = deepest;
     deepest = 0;
 }
@@ -140,6 +177,19 @@ static tongsorrel_device busy(void) {
     return d;
 }
 
+/* A write of a code, with length bytes, the last of them the PEC. */
+static void transaction(uint8_t code) {
+    bytes[0] = TONGSORREL_ADDRESS_WRITE, bytes[1] = code;
+    bytes[2] = code == 0 ? 3 : 0x80, bytes[3] = 0x12;
+    if (length > 2) bytes[length - 1] = tongsorrel_pec(bytes, length - 1);
+}
+
+/* The device with its pages as records, over and over. */
+static void lend(const tongsorrel_device *d) {
+    device = *d;
+    for (size_t i = 0; i < TONGSORREL_MOST_PAGES; i++) pages[i] = d->pages[i % TONGSORREL_PAGES];
+}
+
 int main(void) {
     tongsorrel_device states[STATES] = {tongsorrel_power_on(), busy(), busy(), busy()};
     states[2].unpaged.protect = 0x01;
@@ -150,27 +200,40 @@ int main(void) {
         for (int code = 0; code < 256; code++)
             for (length = 0; length < 7; length++) {
                 device = states[s];
-                bytes[0] = TONGSORREL_ADDRESS_WRITE, bytes[1] = (uint8_t)code;
-                bytes[2] = code == 0 ? 3 : 0x80, bytes[3] = 0x12;
-                if (length > 2) bytes[length - 1] = tongsorrel_pec(bytes, length - 1);
+                transaction((uint8_t)code);
                 DEPTH(write_call, no_write, tongsorrel_write, run_write);
             }
     report("tongsorrel_write");
+    DEPTH(lent_power_on_call, no_lent_power_on, tongsorrel_lent_power_on, run_lent_power_on);
+    for (int s = 0; s < STATES; s++)
+        for (int code = 0; code < 256; code++)
+            for (length = 0; length < 7; length++) {
+                lend(&states[s]);
+                transaction((uint8_t)code);
+                DEPTH(lent_write_call, no_lent_write, tongsorrel_lent_write, run_lent_write);
+            }
+    report("tongsorrel_lent_power_on, write");
     for (int s = 0; s < STATES; s++)
         for (int code = 0; code < 256; code++)
             for (n = 0; n < 11; n += 1 + (n > 3)) {
                 device = states[s], length = 3;
                 bytes[0] = TONGSORREL_ADDRESS_WRITE, bytes[1] = (uint8_t)code, bytes[2] = TONGSORREL_ADDRESS_READ;
                 DEPTH(read_call, no_read, tongsorrel_read, run_read);
+                lend(&states[s]);
+                DEPTH(lent_read_call, no_lent_read, tongsorrel_lent_read, run_lent_read);
             }
-    report("tongsorrel_read");
+    report("tongsorrel_read, lent_read");
     for (int s = 0; s < STATES; s++)
         for (number = 0; number < 9; number++) {
             device = states[s], word = 0x7BFF;
-            for (second = 0; second < 5; second++) DEPTH(measure_call, no_measure, tongsorrel_measure, run_measure);
+            lend(&states[s]);
+            for (second = 0; second < 5; second++) {
+                DEPTH(measure_call, no_measure, tongsorrel_measure, run_measure);
+                DEPTH(lent_measure_call, no_lent_measure, tongsorrel_lent_measure, run_lent_measure);
+            }
             DEPTH(supplies_call, no_supplies, tongsorrel_supplies, run_supplies);
         }
-    report("tongsorrel_measure, supplies");
+    report("tongsorrel_measure, lent_measure, supplies");
     for (int s = 0; s < STATES; s++) {
         device = states[s];
         word = 32767;

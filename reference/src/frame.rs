@@ -1,18 +1,42 @@
 //! The frame file (data sheet, section 13): one frame a line in, one answer a line out.
 //! Constant memory, any input bytes whatever.
 
-use crate::device::Device;
+use crate::lent::{self, Unpaged};
+use crate::page::Page;
 use std::io::{self, BufWriter, ErrorKind, Read, Write};
 
 /// Characters of the line buffer, LF not counted.
 pub const LINE: usize = 512;
 const BLOCK: usize = 64 * 1024;
 
-/// Runs a frame file from power-on to the end of the input.
+/// The device that the frames are calls on: the unpaged part and the page records.
+#[derive(Clone, Debug, PartialEq, Eq)]
+pub struct Shelf {
+    pub unpaged: Unpaged,
+    pub pages: Vec<Page>,
+}
+
+impl Shelf {
+    /// A shelf at power-on; none for a number of pages that gets answer 15.
+    pub fn power_on(pages: usize) -> Option<Shelf> {
+        let mut pages = vec![Page::power_on(); pages.min(lent::MOST + 1)];
+        match lent::power_on(&mut pages) {
+            (unpaged, 0) => Some(Shelf { unpaged, pages }),
+            _ => None,
+        }
+    }
+}
+
+/// Runs a frame file from power-on with eight pages to the end of the input.
 pub fn run(input: &mut impl Read, output: &mut impl Write) -> io::Result<()> {
+    let mut shelf = Shelf::power_on(8).expect("eight pages are a shelf");
+    run_on(&mut shelf, input, output)
+}
+
+/// Runs a frame file on a shelf to the end of the input.
+pub fn run_on(shelf: &mut Shelf, input: &mut impl Read, output: &mut impl Write) -> io::Result<()> {
     let mut output = BufWriter::with_capacity(BLOCK, output);
     let mut block = vec![0u8; BLOCK];
-    let mut device = Device::power_on();
     let mut line = Line::empty();
     loop {
         let count = match input.read(&mut block) {
@@ -23,7 +47,7 @@ pub fn run(input: &mut impl Read, output: &mut impl Write) -> io::Result<()> {
         };
         for &byte in &block[..count] {
             if byte == b'\n' {
-                line.finish(&mut device, &mut output)?;
+                line.finish(shelf, &mut output)?;
             } else {
                 line.push(byte);
             }
@@ -31,7 +55,7 @@ pub fn run(input: &mut impl Read, output: &mut impl Write) -> io::Result<()> {
     }
     // A last line without LF counts if it has characters.
     if line.length > 0 {
-        line.finish(&mut device, &mut output)?;
+        line.finish(shelf, &mut output)?;
     }
     output.flush()
 }
@@ -62,11 +86,11 @@ impl Line {
     }
 
     /// Answers the line and empties the buffer.
-    fn finish(&mut self, device: &mut Device, output: &mut impl Write) -> io::Result<()> {
+    fn finish(&mut self, shelf: &mut Shelf, output: &mut impl Write) -> io::Result<()> {
         let result = if self.overlong {
             bad(output)
         } else {
-            answer(device, &self.characters[..self.length], output)
+            answer(shelf, &self.characters[..self.length], output)
         };
         self.length = 0;
         self.overlong = false;
@@ -75,26 +99,31 @@ impl Line {
 }
 
 /// Answers one line, given without its LF.
-pub fn answer(device: &mut Device, line: &[u8], output: &mut impl Write) -> io::Result<()> {
+pub fn answer(shelf: &mut Shelf, line: &[u8], output: &mut impl Write) -> io::Result<()> {
     let mut buffer = [0u8; LINE / 2];
     let Some(frame) = decode(line, &mut buffer) else {
         return bad(output);
     };
+    let Shelf { unpaged, pages } = shelf;
     let mut reply = [0u8; 255];
     match *frame {
-        [0x01, ref bytes @ ..] => put(output, device.write(bytes), &[]),
+        [0x01, ref bytes @ ..] => put(output, lent::write(unpaged, pages, bytes), &[]),
         [0x02, n, ref header @ ..] => {
             let reply = &mut reply[..usize::from(n)];
-            put(output, device.read(header, reply), reply)
+            put(output, lent::read(unpaged, pages, header, reply), reply)
         }
         [0x03, page, quantity, low, high] => {
             let word = u16::from_le_bytes([low, high]);
-            put(output, device.measure(page, quantity, word), &[])
+            let answer = lent::measure(unpaged, pages, page, quantity, word);
+            put(output, answer, &[])
         }
-        [0x04, low, high] => put(output, device.sample(u16::from_le_bytes([low, high])), &[]),
+        [0x04, low, high] => {
+            let sample = u16::from_le_bytes([low, high]);
+            put(output, lent::sample(unpaged, pages, sample), &[])
+        }
         [0x05, n] => {
             let reply = &mut reply[..usize::from(n)];
-            put(output, device.alert_response(reply), reply)
+            put(output, lent::alert_response(unpaged, pages, reply), reply)
         }
         _ => bad(output),
     }

@@ -4,9 +4,12 @@
 
 #![forbid(unsafe_code)]
 
+pub mod account;
 pub mod command;
 pub mod device;
 pub mod frame;
+pub mod lent;
 pub mod linear11;
+pub mod page;
 pub mod pec;
 pub mod totalizer;

@@ -1,6 +1,6 @@
 //! The five kinds of call: random ones, and one call made on the library and on the second program.
 
-use crate::library::{self, Device};
+use crate::library::{self, Device, Page, Unpaged};
 use crate::mirror;
 use crate::random::Random;
 use crate::states;
@@ -32,7 +32,7 @@ impl Call {
     }
 
     /// The length of the reply buffer.
-    fn clocked(&self) -> usize {
+    pub fn clocked(&self) -> usize {
         match *self {
             Call::Read(_, n) | Call::AlertResponse(n) => n,
             _ => 0,
@@ -49,7 +49,7 @@ pub struct Outcome {
 }
 
 /// Bytes behind the reply buffer, which no call may touch.
-const GUARD: usize = 8;
+pub const GUARD: usize = 8;
 
 /// The call on the library. The reply buffer holds `before` in every byte, and so do the bytes behind it.
 pub fn on_library(device: Device, call: &Call, before: u8) -> Outcome {
@@ -106,11 +106,11 @@ pub fn on_both(device: Device, call: &Call, before: u8) -> Outcome {
 }
 
 /// A random call, shaped so that on this state every answer is met often.
-pub fn random_call(random: &mut Random, device: &Device) -> Call {
+pub fn random_call(random: &mut Random, unpaged: &Unpaged, pages: &[Page]) -> Call {
     match random.below(10) {
-        0..=3 => Call::Write(write(random, device)),
+        0..=3 => Call::Write(write(random, unpaged, pages)),
         4..=6 => read(random),
-        7 => measure(random, device),
+        7 => measure(random, unpaged, pages),
         8 => Call::Sample(sample(random)),
         _ => Call::AlertResponse(if random.once_in(3) {
             random.below(12)
@@ -147,16 +147,19 @@ fn length(code: u8) -> usize {
     command::lookup(code).map_or(1, |command| command.data)
 }
 
-/// The page selected, or one where there is none or every one is.
-fn selected(device: &Device) -> usize {
-    usize::from(device.unpaged.page % 8)
+/// The page with this number, or one where there is none or every one is meant.
+fn page_at(pages: &[Page], number: u8) -> Page {
+    match pages.len() {
+        0 => library::power_on().pages[0],
+        length => pages[usize::from(number) % length],
+    }
 }
 
 /// Data that are often valid for the code, and a limit that is often near the measured value.
-fn data(random: &mut Random, device: &Device, code: u8) -> Vec<u8> {
-    let page = &device.pages[selected(device)];
+fn data(random: &mut Random, unpaged: &Unpaged, pages: &[Page], code: u8) -> Vec<u8> {
+    let page = page_at(pages, unpaged.page);
     let byte = match code {
-        0x00 => states::selection(random),
+        0x00 => states::selection(random, pages.len()),
         0x01 => random.pick(&[0x00, 0x40, 0x80, 0x80]),
         0x10 => random.pick(&[0x00, 0x00, 0x00, 0x20, 0x40, 0x80]),
         0x41 | 0x47 | 0x50 | 0x54 | 0x56 | 0x5A => random.pick(&[0x00, 0x80, 0xC0]),
@@ -179,10 +182,10 @@ fn data(random: &mut Random, device: &Device, code: u8) -> Vec<u8> {
 }
 
 /// The bytes of a write transaction: mostly well formed but for one slip.
-fn write(random: &mut Random, device: &Device) -> Vec<u8> {
+fn write(random: &mut Random, unpaged: &Unpaged, pages: &[Page]) -> Vec<u8> {
     let code = written_code(random);
     let mut bytes = vec![0xC0, code];
-    bytes.extend(data(random, device, code));
+    bytes.extend(data(random, unpaged, pages, code));
     if random.bool() {
         bytes.push(pec::pec(&bytes));
     }
@@ -236,18 +239,18 @@ fn read(random: &mut Random) -> Call {
 }
 
 /// A measurement, often near a limit of its page.
-fn measure(random: &mut Random, device: &Device) -> Call {
+fn measure(random: &mut Random, unpaged: &Unpaged, pages: &[Page]) -> Call {
     let page = match random.below(8) {
         0 => random.u8(),
-        1..=3 => device.unpaged.page,
-        _ => random.below(8) as u8,
+        1..=3 => unpaged.page,
+        _ => random.below(pages.len().max(1)) as u8,
     };
     let quantity = if random.once_in(8) {
         random.u8()
     } else {
         random.below(4) as u8
     };
-    let limits = &device.pages[usize::from(page % 8)].limits;
+    let limits = page_at(pages, page).limits;
     let limit = match quantity {
         0 => limits[0],
         1 => limits[1],

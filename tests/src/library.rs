@@ -1,4 +1,4 @@
-//! libtongsorrel.a: its structs and functions, declared as include/tongsorrel.h declares them, each function behind a safe one.
+//! libtongsorrel.a and liblent.a: their structs and functions, declared as include/tongsorrel.h declares them, each function behind a safe one.
 //! A slice crosses as a pointer and a length, a struct by value.
 
 /// The energy account.
@@ -49,6 +49,14 @@ pub struct Done {
     pub answer: u8,
 }
 
+/// What a call over lent records hands back: the unpaged part, and the answer number.
+#[repr(C)]
+#[derive(Clone, Copy, Debug, PartialEq, Eq)]
+pub struct Outcome {
+    pub unpaged: Unpaged,
+    pub answer: u8,
+}
+
 #[repr(C)]
 #[derive(Clone, Copy, Debug, PartialEq, Eq)]
 pub struct Totalizer {
@@ -68,7 +76,7 @@ pub struct Taken {
 }
 
 mod archive {
-    use super::{Device, Done, Taken, Totalizer};
+    use super::{Device, Done, Outcome, Page, Taken, Totalizer, Unpaged};
 
     extern "C" {
         pub fn tongsorrel_pec(bytes: *const u8, length: usize) -> u8;
@@ -88,6 +96,45 @@ mod archive {
         pub fn tongsorrel_sample(d: Device, sample: u16) -> Done;
         pub fn tongsorrel_alert_response(d: Device, reply: *mut u8, n: usize) -> Done;
         pub fn tongsorrel_supplies(d: Device, page: u8) -> bool;
+        pub fn tongsorrel_lent_power_on(pages: *mut Page, number: usize) -> Outcome;
+        pub fn tongsorrel_lent_write(
+            u: Unpaged,
+            pages: *mut Page,
+            number: usize,
+            bytes: *const u8,
+            length: usize,
+        ) -> Outcome;
+        pub fn tongsorrel_lent_read(
+            u: Unpaged,
+            pages: *const Page,
+            number: usize,
+            header: *const u8,
+            header_length: usize,
+            reply: *mut u8,
+            n: usize,
+        ) -> Outcome;
+        pub fn tongsorrel_lent_measure(
+            u: Unpaged,
+            pages: *mut Page,
+            number: usize,
+            page: u8,
+            quantity: u8,
+            word: u16,
+        ) -> Outcome;
+        pub fn tongsorrel_lent_sample(
+            u: Unpaged,
+            pages: *const Page,
+            number: usize,
+            sample: u16,
+        ) -> Outcome;
+        pub fn tongsorrel_lent_alert_response(
+            u: Unpaged,
+            pages: *const Page,
+            number: usize,
+            reply: *mut u8,
+            n: usize,
+        ) -> Outcome;
+        pub fn tongsorrel_lent_supplies(pages: *const Page, number: usize, page: u8) -> bool;
         pub fn tongsorrel_totalizer_fresh() -> Totalizer;
         pub fn tongsorrel_totalizer_take(t: Totalizer, reply: *const u8, length: usize) -> Taken;
     }
@@ -146,6 +193,60 @@ pub fn alert_response(d: Device, reply: &mut [u8]) -> Done {
 
 pub fn supplies(d: Device, page: u8) -> bool {
     unsafe { archive::tongsorrel_supplies(d, page) }
+}
+
+/// The device over lent records.
+pub mod lent {
+    use super::{archive, Outcome, Page, Unpaged};
+
+    pub fn power_on(pages: &mut [Page]) -> Outcome {
+        unsafe { archive::tongsorrel_lent_power_on(pages.as_mut_ptr(), pages.len()) }
+    }
+
+    pub fn write(u: Unpaged, pages: &mut [Page], bytes: &[u8]) -> Outcome {
+        let (records, number) = (pages.as_mut_ptr(), pages.len());
+        unsafe { archive::tongsorrel_lent_write(u, records, number, bytes.as_ptr(), bytes.len()) }
+    }
+
+    pub fn read(u: Unpaged, pages: &[Page], header: &[u8], reply: &mut [u8]) -> Outcome {
+        unsafe {
+            archive::tongsorrel_lent_read(
+                u,
+                pages.as_ptr(),
+                pages.len(),
+                header.as_ptr(),
+                header.len(),
+                reply.as_mut_ptr(),
+                reply.len(),
+            )
+        }
+    }
+
+    pub fn measure(u: Unpaged, pages: &mut [Page], page: u8, quantity: u8, word: u16) -> Outcome {
+        let (records, number) = (pages.as_mut_ptr(), pages.len());
+        unsafe { archive::tongsorrel_lent_measure(u, records, number, page, quantity, word) }
+    }
+
+    pub fn sample(u: Unpaged, pages: &[Page], sample: u16) -> Outcome {
+        unsafe { archive::tongsorrel_lent_sample(u, pages.as_ptr(), pages.len(), sample) }
+    }
+
+    pub fn alert_response(u: Unpaged, pages: &[Page], reply: &mut [u8]) -> Outcome {
+        let (records, number) = (pages.as_ptr(), pages.len());
+        unsafe {
+            archive::tongsorrel_lent_alert_response(
+                u,
+                records,
+                number,
+                reply.as_mut_ptr(),
+                reply.len(),
+            )
+        }
+    }
+
+    pub fn supplies(pages: &[Page], page: u8) -> bool {
+        unsafe { archive::tongsorrel_lent_supplies(pages.as_ptr(), pages.len(), page) }
+    }
 }
 
 pub fn totalizer_fresh() -> Totalizer {

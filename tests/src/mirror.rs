@@ -2,9 +2,10 @@
 
 use crate::library;
 use reference::device::{Account, Device, Page, Reading};
+use reference::lent::Unpaged;
 use reference::totalizer::Totalizer;
 
-fn page_to_reference(page: &library::Page) -> Page {
+pub fn page_to_reference(page: &library::Page) -> Page {
     Page {
         operation: page.operation,
         vout_command: page.command,
@@ -19,7 +20,7 @@ fn page_to_reference(page: &library::Page) -> Page {
     }
 }
 
-fn page_from_reference(page: &Page) -> library::Page {
+pub fn page_from_reference(page: &Page) -> library::Page {
     library::Page {
         operation: page.operation,
         command: page.vout_command,
@@ -32,9 +33,8 @@ fn page_from_reference(page: &Page) -> library::Page {
     }
 }
 
-pub fn to_reference(device: &library::Device) -> Device {
-    let unpaged = &device.unpaged;
-    Device {
+pub fn unpaged_to_reference(unpaged: &library::Unpaged) -> Unpaged {
+    Unpaged {
         page: unpaged.page,
         protect: unpaged.protect,
         cml: unpaged.cml,
@@ -44,24 +44,35 @@ pub fn to_reference(device: &library::Device) -> Device {
             rollover: unpaged.energy.rollover,
             samples: unpaged.energy.count,
         },
-        pages: std::array::from_fn(|index| page_to_reference(&device.pages[index])),
     }
 }
 
-pub fn from_reference(device: &Device) -> library::Device {
-    library::Device {
-        unpaged: library::Unpaged {
-            page: device.page,
-            protect: device.protect,
-            cml: device.cml,
-            alert: device.alert,
-            energy: library::Account {
-                accumulator: device.account.accumulator,
-                rollover: device.account.rollover,
-                count: device.account.samples,
-            },
+pub fn unpaged_from_reference(unpaged: &Unpaged) -> library::Unpaged {
+    library::Unpaged {
+        page: unpaged.page,
+        protect: unpaged.protect,
+        cml: unpaged.cml,
+        alert: unpaged.alert,
+        energy: library::Account {
+            accumulator: unpaged.account.accumulator,
+            rollover: unpaged.account.rollover,
+            count: unpaged.account.samples,
         },
-        pages: std::array::from_fn(|index| page_from_reference(&device.pages[index])),
+    }
+}
+
+pub fn to_reference(device: &library::Device) -> Device {
+    Device::from_parts(
+        unpaged_to_reference(&device.unpaged),
+        device.pages.each_ref().map(page_to_reference),
+    )
+}
+
+pub fn from_reference(device: &Device) -> library::Device {
+    let (unpaged, pages) = device.lend();
+    library::Device {
+        unpaged: unpaged_from_reference(&unpaged),
+        pages: pages.each_ref().map(page_from_reference),
     }
 }
 

@@ -52,7 +52,8 @@ fn register(random: &mut Random) -> u8 {
     }
 }
 
-fn page(random: &mut Random) -> Page {
+/// A record that gets no answer 15.
+pub fn page(random: &mut Random) -> Page {
     const POWER_ON: [u16; 6] = [0x2A3D, 0xD280, 0xEB70, 0xEEC0, 0xD3FF, 0xC3F5];
     let limits: [u16; 6] = std::array::from_fn(|cause| {
         if random.bool() {
@@ -93,25 +94,30 @@ pub fn account(random: &mut Random) -> Account {
     }
 }
 
-/// Valid data of PAGE: a page, or FFh for every one.
-pub fn selection(random: &mut Random) -> u8 {
-    if random.once_in(4) {
+/// Valid data of PAGE on a device of this many pages: a page, or FFh for every one.
+pub fn selection(random: &mut Random, pages: usize) -> u8 {
+    if pages == 0 || random.once_in(4) {
         0xFF
     } else {
-        random.below(8) as u8
+        random.below(pages) as u8
+    }
+}
+
+/// An unpaged part that gets no answer 15 beside this many pages.
+pub fn unpaged(random: &mut Random, pages: usize) -> Unpaged {
+    Unpaged {
+        page: selection(random, pages),
+        protect: random.pick(&[0x00, 0x00, 0x00, 0x20, 0x40, 0x80]),
+        cml: register(random),
+        alert: random.bool(),
+        energy: account(random),
     }
 }
 
 /// A state that gets no answer 15; every other field holds anything.
 pub fn valid(random: &mut Random) -> Device {
     Device {
-        unpaged: Unpaged {
-            page: selection(random),
-            protect: random.pick(&[0x00, 0x00, 0x00, 0x20, 0x40, 0x80]),
-            cml: register(random),
-            alert: random.bool(),
-            energy: account(random),
-        },
+        unpaged: unpaged(random, 8),
         pages: std::array::from_fn(|_| page(random)),
     }
 }
@@ -128,48 +134,61 @@ pub fn account_beyond(random: &mut Random) -> Account {
     account
 }
 
-/// A valid state but for one field, which makes it one for answer 15.
-pub fn one_field_invalid(random: &mut Random) -> Device {
-    let mut device = valid(random);
-    let page = random.below(8);
+/// Gives one field of a valid state a value that gets answer 15.
+pub fn spoil(random: &mut Random, unpaged: &mut Unpaged, pages: &mut [Page]) {
+    let number = pages.len() as u8;
+    let page = &mut pages[random.below(usize::from(number))];
     match random.below(5) {
-        0 => device.unpaged.page = random.pick(&[8, 9, 0x80, 0xFE]),
-        1 => device.unpaged.protect = random.pick(&[0x01, 0x10, 0x21, 0x60, 0xA0, 0xC0, 0xFF]),
-        2 => device.unpaged.energy = account_beyond(random),
-        3 => device.pages[page].operation = random.pick(&[0x01, 0x20, 0x41, 0x81, 0xC0, 0xFF]),
+        0 => unpaged.page = random.pick(&[number, number + 1, 0x80, 0xFE]),
+        1 => unpaged.protect = random.pick(&[0x01, 0x10, 0x21, 0x60, 0xA0, 0xC0, 0xFF]),
+        2 => unpaged.energy = account_beyond(random),
+        3 => page.operation = random.pick(&[0x01, 0x20, 0x41, 0x81, 0xC0, 0xFF]),
         _ => {
             let cause = random.below(6);
             let other_code = if cause == IOUT_OC { 0x80 } else { 0x40 };
-            device.pages[page].responses[cause] =
-                random.pick(&[other_code, 0x01, 0x20, 0x81, 0xC1, 0xFF]);
+            page.responses[cause] = random.pick(&[other_code, 0x01, 0x20, 0x81, 0xC1, 0xFF]);
         }
     }
+}
+
+/// A valid state but for one field, which makes it one for answer 15.
+pub fn one_field_invalid(random: &mut Random) -> Device {
+    let mut device = valid(random);
+    spoil(random, &mut device.unpaged, &mut device.pages);
     device
 }
 
 /// Every field at random.
+pub fn any_unpaged(random: &mut Random) -> Unpaged {
+    Unpaged {
+        page: random.u8(),
+        protect: random.u8(),
+        cml: random.u8(),
+        alert: random.bool(),
+        energy: Account {
+            accumulator: random.u16(),
+            rollover: random.u16(),
+            count: random.u32(),
+        },
+    }
+}
+
+pub fn any_page(random: &mut Random) -> Page {
+    Page {
+        operation: random.u8(),
+        command: random.u16(),
+        limits: std::array::from_fn(|_| random.u16()),
+        responses: std::array::from_fn(|_| random.u8()),
+        words: std::array::from_fn(|_| random.u16()),
+        measured: std::array::from_fn(|_| random.bool()),
+        status: std::array::from_fn(|_| random.u8()),
+        tripped: random.bool(),
+    }
+}
+
 pub fn anything(random: &mut Random) -> Device {
     Device {
-        unpaged: Unpaged {
-            page: random.u8(),
-            protect: random.u8(),
-            cml: random.u8(),
-            alert: random.bool(),
-            energy: Account {
-                accumulator: random.u16(),
-                rollover: random.u16(),
-                count: random.u32(),
-            },
-        },
-        pages: std::array::from_fn(|_| Page {
-            operation: random.u8(),
-            command: random.u16(),
-            limits: std::array::from_fn(|_| random.u16()),
-            responses: std::array::from_fn(|_| random.u8()),
-            words: std::array::from_fn(|_| random.u16()),
-            measured: std::array::from_fn(|_| random.bool()),
-            status: std::array::from_fn(|_| random.u8()),
-            tripped: random.bool(),
-        }),
+        unpaged: any_unpaged(random),
+        pages: std::array::from_fn(|_| any_page(random)),
     }
 }

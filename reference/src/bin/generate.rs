@@ -1,11 +1,12 @@
-//! `generate SEED COUNT` writes a random frame file of COUNT lines, starting from
-//! power-on, to standard output. The same seed gives the same file. A model device
-//! follows the frames, so that words come near the present limits and the device
-//! does not stay protected, tripped or full of status bits.
+//! `generate SEED COUNT [PAGES]` writes a random frame file of COUNT lines, starting
+//! from power-on with PAGES pages (8 by default), to standard output. The same seed
+//! gives the same file. A model device follows the frames, so that words come near
+//! the present limits and the device does not stay protected, tripped or full of
+//! status bits.
 
 use reference::command::{self, Command};
-use reference::device::{Device, Page, ALL_PAGES, TEMPERATURE, VIN, VOUT};
-use reference::frame;
+use reference::device::{Page, ALL_PAGES, TEMPERATURE, VIN, VOUT};
+use reference::frame::{self, Shelf};
 use reference::linear11;
 use reference::pec::pec;
 use std::collections::VecDeque;
@@ -66,18 +67,30 @@ const CALM: [u16; 4] = [0x2666, 0xD080, 0xD300, 0xE8C8];
 
 struct Generator {
     random: Random,
-    model: Device,
+    model: Shelf,
     /// Lines decided on already.
     pending: VecDeque<Vec<u8>>,
 }
 
 impl Generator {
-    fn new(seed: u64) -> Generator {
+    fn new(seed: u64, model: Shelf) -> Generator {
         Generator {
             random: Random(seed),
-            model: Device::power_on(),
+            model,
             pending: VecDeque::new(),
         }
+    }
+
+    /// The number of any page.
+    fn any_number(&mut self) -> u8 {
+        self.random.below(self.model.pages.len()) as u8
+    }
+
+    /// The number of a page that is not there.
+    fn no_number(&mut self) -> u8 {
+        let count = self.model.pages.len() as u8;
+        self.random
+            .pick(&[count, count, count + 1, 0x60, 0x80, 0xFE])
     }
 
     /// The next line, without its LF; the model follows it.
@@ -91,11 +104,11 @@ impl Generator {
     }
 
     fn choose(&mut self) -> Vec<u8> {
-        if self.model.protect != 0 && self.random.percent(8) {
+        if self.model.unpaged.protect != 0 && self.random.percent(8) {
             return self.write_line(0x10, &[0x00]);
         }
-        if self.model.page == ALL_PAGES && self.random.percent(10) {
-            let page = self.random.below(8) as u8;
+        if self.model.unpaged.page == ALL_PAGES && self.random.percent(10) {
+            let page = self.any_number();
             return self.write_line(0x00, &[page]);
         }
         if !self.some_page().supplies() && self.random.percent(4) {
@@ -121,15 +134,16 @@ impl Generator {
 
     /// The number of the selected page, or of any page when all are selected.
     fn some_number(&mut self) -> u8 {
-        match self.model.page {
-            ALL_PAGES => self.random.below(8) as u8,
+        match self.model.unpaged.page {
+            ALL_PAGES => self.any_number(),
             page => page,
         }
     }
 
     /// That page, as it stands.
     fn some_page(&mut self) -> Page {
-        self.model.pages[usize::from(self.some_number())]
+        let number = self.some_number();
+        self.model.pages[usize::from(number)]
     }
 
     // Words.
@@ -197,7 +211,7 @@ impl Generator {
         match self.random.below(20) {
             0..=9 => self.near(quantity, latest),
             10..=12 => self.near(quantity, page.limits[cause]),
-            13..=16 => Device::power_on().pages[0].limits[cause],
+            13..=16 => Page::power_on().limits[cause],
             17 | 18 => self.random.pick(&ENDS),
             _ => self.random.word(),
         }
@@ -208,14 +222,14 @@ impl Generator {
     fn measurement(&mut self) -> Vec<u8> {
         let page = match self.random.below(20) {
             0..=11 => self.some_number(),
-            12..=18 => self.random.below(8) as u8,
-            _ => self.random.pick(&[8, 9, 0x60, 0xFF]),
+            12..=18 => self.any_number(),
+            _ => self.no_number(),
         };
         let quantity = match self.random.below(40) {
             0 => self.random.pick(&[4, 5, 0x80, 0xFF]),
             _ => self.random.below(4) as u8,
         };
-        let near_page = usize::from(page.min(7));
+        let near_page = usize::from(page).min(self.model.pages.len() - 1);
         let word = self.measured_word(near_page, usize::from(quantity.min(3)));
         measurement_line(page, quantity, word)
     }
@@ -250,7 +264,7 @@ impl Generator {
         }
         match code {
             0x00 if valid => vec![self.page_data()],
-            0x00 => vec![self.random.pick(&[8, 9, 0x80, 0xFE])],
+            0x00 => vec![self.no_number()],
             0x01 if valid => vec![self.random.pick(&[0x00, 0x40, 0x80, 0x80, 0x80])],
             0x10 if valid => vec![self.random.pick(&[0x00, 0x00, 0x20, 0x40, 0x80])],
             0x7A..=0x7E => vec![self.ones(code)],
@@ -265,14 +279,14 @@ impl Generator {
     fn page_data(&mut self) -> u8 {
         match self.random.below(5) {
             0 => ALL_PAGES,
-            _ => self.random.below(8) as u8,
+            _ => self.any_number(),
         }
     }
 
     /// Ones for a status register: all that stand, some of them, others, or any.
     fn ones(&mut self, code: u8) -> u8 {
         let standing = match code {
-            0x7E => self.model.cml,
+            0x7E => self.model.unpaged.cml,
             _ => self.some_page().status[usize::from(code - 0x7A)],
         };
         match self.random.below(8) {
@@ -350,8 +364,8 @@ impl Generator {
             1..=2 => 32767,
             3 => 32768,
             4 => self.random.word() | 0x8000,
-            5 => 32767 - self.model.account.accumulator,
-            6 => (32768 - self.model.account.accumulator).min(32767),
+            5 => 32767 - self.model.unpaged.account.accumulator,
+            6 => (32768 - self.model.unpaged.account.accumulator).min(32767),
             7..=9 => self.random.below(16) as u16,
             _ => self.random.word() & 0x7FFF,
         };
@@ -401,7 +415,7 @@ impl Generator {
     /// Takes all faults from one page or from all, gives new responses and switches on.
     fn calm_page(&mut self) -> Vec<u8> {
         let page = self.page_data();
-        let defaults = Device::power_on().pages[0].limits;
+        let defaults = Page::power_on().limits;
         self.push_write(&[0x00, page]);
         for (code, limit) in LIMITS.into_iter().zip(defaults) {
             let [low, high] = limit.to_le_bytes();
@@ -411,10 +425,9 @@ impl Generator {
             let response = self.random.pick(&[0x00, 0x00, 0x80, 0xC0, 0xC0]);
             self.push_write(&[code, response]);
         }
-        let measured = if page == ALL_PAGES {
-            0..8
-        } else {
-            page..page + 1
+        let measured = match page {
+            ALL_PAGES => 0..self.model.pages.len() as u8,
+            page => page..page + 1,
         };
         for page in measured {
             for (quantity, word) in (0..).zip(CALM) {
@@ -580,17 +593,21 @@ fn frame_line(first: u8, bytes: &[u8]) -> Vec<u8> {
     line
 }
 
-fn arguments() -> Option<(u64, u64)> {
+/// Seed, count and the shelf.
+fn arguments() -> Option<(u64, u64, Shelf)> {
     let arguments: Vec<String> = std::env::args().skip(1).collect();
-    match &arguments[..] {
-        [seed, count] => Some((seed.parse().ok()?, count.parse().ok()?)),
-        _ => None,
-    }
+    let (seed, count, pages) = match &arguments[..] {
+        [seed, count] => (seed, count, 8),
+        [seed, count, pages] => (seed, count, pages.parse().ok()?),
+        _ => return None,
+    };
+    let shelf = Shelf::power_on(pages)?;
+    Some((seed.parse().ok()?, count.parse().ok()?, shelf))
 }
 
-fn generate(seed: u64, count: u64) -> io::Result<()> {
+fn generate(seed: u64, count: u64, shelf: Shelf) -> io::Result<()> {
     let mut output = BufWriter::with_capacity(64 * 1024, io::stdout().lock());
-    let mut generator = Generator::new(seed);
+    let mut generator = Generator::new(seed, shelf);
     for _ in 0..count {
         output.write_all(&generator.next_line())?;
         output.write_all(b"\n")?;
@@ -599,11 +616,11 @@ fn generate(seed: u64, count: u64) -> io::Result<()> {
 }
 
 fn main() -> ExitCode {
-    let Some((seed, count)) = arguments() else {
-        eprintln!("usage: generate SEED COUNT");
+    let Some((seed, count, shelf)) = arguments() else {
+        eprintln!("usage: generate SEED COUNT [PAGES], 1 to 96");
         return ExitCode::from(2);
     };
-    match generate(seed, count) {
+    match generate(seed, count, shelf) {
         Ok(()) => ExitCode::SUCCESS,
         Err(error) => {
             eprintln!("generate: {error}");

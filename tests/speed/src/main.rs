@@ -1,8 +1,9 @@
-//! `speed` prints two tables of nanoseconds a call; `speed BENCH REFERENCE FILE` also one of frames a second, for two programs on a frame file.
+//! `speed` prints three tables of nanoseconds a call; `speed BENCH REFERENCE FILE` also one of frames a second, for two programs on a frame file.
 //! Figures are best / median of many repetitions; a ratio over 1 says that the proved program is slower.
 
 mod calls;
 mod frames;
+mod lent;
 mod race;
 mod routines;
 
@@ -21,6 +22,13 @@ fn main() {
     calls::sample("sample");
     calls::alert_response("alert response, answered");
     calls::totalizer("totalizer, one reply");
+
+    println!();
+    race::print_head(&["Rust on `&mut [Page]`"]);
+    lent::rows(8);
+    lent::rows(96);
+    lent::sample(1);
+    lent::sample(48);
 
     let arguments: Vec<String> = std::env::args().skip(1).collect();
     if let [bench, reference, file] = &arguments[..] {

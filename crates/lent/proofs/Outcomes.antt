@@ -1,0 +1,135 @@
+-- The turns of the calls are the calls' definition: an outcome beside the records that the call leaves is what `step` says.
+-- Assumes nothing.
+use Prim.Native.Nat.{ℕ, _<_, _≤_}
+use mathlib.Core.Path.{_≡_, refl, sym, ap, _∙_}
+use mathlib.Core.Bool.{Bool, true, false, cond, _&&_, _||_, or-false, and-false, and-true, and-eq-true-iff}
+use mathlib.Core.List.{List, map}
+use native.Mathlib.Omega.{arith}
+use lib.Dec.{eqb, ltb}
+use lib.ListN.{length, getD, set, replicate}
+use lib.Seq.{set-out}
+use borrow.Author.Tests.{eqb-true, ltb-true}
+use Rattle.laws.specs.Lists.{anyOf, anyPair}
+use Rattle.laws.proofs.Branches.{either}
+use Rattle.page.specs.declared.Page.{Page}
+use Rattle.page.specs.Page.{noPage, powerOnPage}
+use Rattle.page.specs.Status.{anyStatus, risen}
+use Rattle.unpaged.specs.declared.Unpaged.{Unpaged}
+use Rattle.unpaged.specs.Unpaged.{everyPage, refused}
+use Rattle.writes.specs.declared.asked.Write.{Write}
+use Rattle.writes.specs.Asked.{asked}
+use Rattle.writes.specs.Left.{pageLeft, unpagedLeft, clearing}
+use Rattle.device.specs.declared.Device.{Device}
+use Rattle.device.specs.Device.{device, deviceValid, powerOn, supported}
+use Rattle.device.specs.Step.{write, measure, alertResponse, answered, effect, written, measured, refusedDevice, left, done, step}
+use Rattle.device.proofs.OnePage.{one-written, one-measured}
+use Rattle.device.proofs.EveryPage.{every-written}
+use Rattle.device.proofs.States.{valid-parts, answered-valid}
+use Rattle.device.proofs.Calls.{stepped, valid-page, one-small, measured-small}
+use Rattle.lent.specs.declared.turns.Turn.{Turn}
+use Rattle.lent.specs.Lent.{beside, powered, poweredOutcome, refusedOutcome, acceptedTurn, writeTurn, measuredTurn, measuredPage, measureTurn, finished, alertLeft, turn}
+use Rattle.lent.proofs.Taken.{same-at, put-back}
+
+-- an answered alert response takes the alert down
+pub alert-done : (u : Unpaged) (ps : List Page) (n a : ℕ) → a ≡ answered (device u ps) (alertResponse n) → beside (alertLeft u a) ps ≡ step (device u ps) (alertResponse n) .done
+unfolding alertLeft left effect refusedDevice refusedOutcome
+alert-done u ps n a e =
+    either (eqb a 0) (λ y. rw y (stepped (device u ps) (alertResponse n) _ a e (rw y)))
+    (λ o. rw o (stepped (device u ps) (alertResponse n) _ a e (rw o)))
+
+-- what is looked at only after a clearing counts only there
+cleared : (clears x y z : Bool) → cond clears ((clears && x) || y) z ≡ cond clears (x || y) z
+cleared true x y z = refl
+cleared false x y z = refl
+
+-- FFh is past the records of a valid state
+past : (u : Unpaged) (ps : List Page) → deviceValid (device u ps) ≡ true → everyPage u ≡ true → length ps ≤ u .page
+unfolding supported
+past u ps v every =
+    let few = ltb-true (length ps) 97 (and-eq-true-iff (ltb 0 (length ps)) (ltb (length ps) 97) .0 (valid-parts (device u ps) v .number) .1) in
+    let last = eqb-true (u .page) 0xFF every in
+    omega (arith, few, last)
+
+-- what the walk over every record leaves of the records ys, and whether a bit rose on any
+abbrev pub swept : Bool → Write → List Page → List Page
+swept every w ys = cond every (map (pageLeft w) ys) ys
+
+abbrev pub rising : Bool → Write → List Page → Bool
+rising every w ys = every && anyPair risen ys (map (pageLeft w) ys)
+
+module _ (u : Unpaged) (ps : List Page) where
+  -- an accepted write to the selected page p,
+  one-accepted : (w : Write) (p : Page) → u .page < length ps → everyPage u ≡ false → p ≡ getD ps (u .page) noPage
+      → beside (finished (acceptedTurn u p w .outcome) (clearing w) false (clearing w && anyOf anyStatus (set ps (u .page) (pageLeft w p)))) (set ps (u .page) (pageLeft w p)) ≡ done (written (device u ps) w) 0
+  unfolding acceptedTurn finished
+  one-accepted w p h one e =
+      rw (cleared (clearing w) _ _ _, one, and-true (risen p (pageLeft w p)), or-false (unpagedLeft w u .alert || risen p (pageLeft w p)), e)
+      (ap (λ (d : Device). done d 0) (one-written (device u ps) w h one))
+
+  -- or to every page,
+  every-accepted : (w : Write) (p : Page) → everyPage u ≡ true
+      → beside (finished (acceptedTurn u p w .outcome) (clearing w) (anyPair risen ps (map (pageLeft w) ps)) (clearing w && anyOf anyStatus (map (pageLeft w) ps))) (map (pageLeft w) ps) ≡ done (written (device u ps) w) 0
+  unfolding acceptedTurn finished
+  every-accepted w p every =
+      rw (cleared (clearing w) _ _ _, every, and-false (risen p (pageLeft w p)), or-false (unpagedLeft w u .alert))
+      (ap (λ (d : Device). done d 0) (every-written (device u ps) w every))
+
+  -- in one form
+  accepted-write : (w : Write) (p : Page) → deviceValid (device u ps) ≡ true → p ≡ getD ps (u .page) powerOnPage
+      → let ys = set ps (u .page) (pageLeft w p) in let zs = swept (everyPage u) w ys in
+      beside (finished (acceptedTurn u p w .outcome) (clearing w) (rising (everyPage u) w ys) (clearing w && anyOf anyStatus zs)) zs ≡ done (written (device u ps) w) 0
+  accepted-write w p v taken =
+      either (everyPage u)
+      (λ every. rw (set-out ps (u .page) (pageLeft w p) (past u ps v every), every) (every-accepted w p every))
+      (λ one. let h = one-small (device u ps) (valid-page (device u ps) v) one in
+      rw one (one-accepted w p h one (taken ∙ same-at powerOnPage noPage ps (u .page) h)))
+
+  -- and an accepted measurement on the page p
+  accepted-measure : (k quantity word : ℕ) (p : Page) → k < length ps → p ≡ getD ps k noPage
+      → beside (measuredTurn u p quantity word .outcome) (set ps k (measuredPage p quantity word)) ≡ done (measured (device u ps) k quantity word) 0
+  unfolding measuredTurn
+  accepted-measure k quantity word p h e = rw e (ap (λ (d : Device). done d 0) (one-measured (device u ps) k quantity word h))
+
+  -- ys are the records with the page put back, zs those after the walk over every one
+  turned-done : (bytes : List ℕ) (p : Page) (t : Turn) → p ≡ getD ps (u .page) powerOnPage → t ≡ writeTurn u p (answered (device u ps) (write bytes)) (asked bytes)
+      → let ys = set ps (u .page) (t .page) in let zs = swept (t .every) (asked bytes) ys in
+      beside (finished (t .outcome) (t .clears) (rising (t .every) (asked bytes) ys) (t .clears && anyOf anyStatus zs)) zs ≡ step (device u ps) (write bytes) .done
+  unfolding writeTurn acceptedTurn finished refusedOutcome left effect refusedDevice
+  turned-done bytes p t taken e =
+      let d = device u ps in
+      let a = answered d (write bytes) in
+      either (eqb a 0)
+      (λ y. let z = eqb-true a 0 y in
+      let t-is : t ≡ acceptedTurn u p (asked bytes) = e ∙ rw y in
+      rw t-is (accepted-write (asked bytes) p (answered-valid d (write bytes) z) taken ∙ stepped d (write bytes) _ 0 (sym z) refl))
+      (λ n. let t-is : t ≡ turn (refusedOutcome u a) p false false = e ∙ rw n in
+      rw (t-is, taken, put-back powerOnPage ps (u .page), or-false (refused u a .alert)) (stepped d (write bytes) _ a refl (rw n)))
+
+  pub write-done : (bytes : List ℕ) (p : Page) (w : Write) (t : Turn) (ys zs : List Page) (rose standing : Bool) → p ≡ getD ps (u .page) powerOnPage → w ≡ asked bytes
+      → t ≡ writeTurn u p (answered (device u ps) (write bytes)) w → ys ≡ set ps (u .page) (t .page) → rose ≡ rising (t .every) w ys → zs ≡ swept (t .every) w ys
+      → standing ≡ (t .clears && anyOf anyStatus zs) → beside (finished (t .outcome) (t .clears) rose standing) zs ≡ step (device u ps) (write bytes) .done
+  write-done bytes p w t ys zs rose standing taken ew e ey er ez es =
+      rw (es, ez, er, ey, ew) (turned-done bytes p t taken (rw ew at e))
+
+  pub measure-done : (k quantity word : ℕ) (p : Page) (t : Turn) → p ≡ getD ps k powerOnPage → t ≡ measureTurn u p (answered (device u ps) (measure k quantity word)) quantity word
+      → beside (t .outcome) (set ps k (t .page)) ≡ step (device u ps) (measure k quantity word) .done
+  unfolding measureTurn measuredTurn refusedOutcome left effect refusedDevice
+  measure-done k quantity word p t taken e =
+      let d = device u ps in
+      let a = answered d (measure k quantity word) in
+      either (eqb a 0)
+      (λ y. let z = eqb-true a 0 y in
+      let h = measured-small d k quantity word z in
+      let t-is : t ≡ measuredTurn u p quantity word = e ∙ rw y in
+      rw t-is (accepted-measure k quantity word p h (taken ∙ same-at powerOnPage noPage ps k h) ∙ stepped d (measure k quantity word) _ 0 (sym z) refl))
+      (λ n. let t-is : t ≡ turn (refusedOutcome u a) p false false = e ∙ rw n in
+      rw (t-is, taken, put-back powerOnPage ps k) (stepped d (measure k quantity word) _ a refl (rw n)))
+
+-- power-on sets the records where its answer is 0
+pub powered-done : (ps : List Page) → poweredOutcome (length ps) .answer ≡ 0 → beside (poweredOutcome (length ps)) (replicate (length ps) powerOnPage) ≡ powered ps
+unfolding powered poweredOutcome powerOn
+powered-done ps z = either (supported (length ps)) (λ y. rw y) (λ n. let f : 15 ≡ 0 = rw n at z in absurd (omega arith))
+
+pub powered-kept : (ps : List Page) → (poweredOutcome (length ps) .answer ≡ 0 → ⊥) → beside (poweredOutcome (length ps)) ps ≡ powered ps
+unfolding powered poweredOutcome
+powered-kept ps other = either (supported (length ps)) (λ y. absurd (other (rw y))) (λ n. rw n)

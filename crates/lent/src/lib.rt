@@ -1,0 +1,112 @@
+// The device whose page records the firmware lends, 1 to 96 of them, as a slice; the unpaged part goes in and comes back by
+// value. Power-on and the calls of the eight-page device, over as many pages as are lent. Any number of records, and any
+// values in them, are taken. A call takes one record out, asks the rules by value, and puts it back; of the others it only
+// asks whether they are valid and, after a clearing, whether a status bit stands. A write where PAGE is FFh walks over all:
+// no record has that index, so the one taken out is none of them, and putting it back sets none.
+ghost use mathlib.Core.Path.{_≡_};
+ghost use mathlib.Core.Bool.{_&&_};
+ghost use lib.Dec.{ltb};
+ghost use lib.ListN.{length, getD};
+ghost use Rattle.page.specs.Page.{noPage};
+ghost use Rattle.page.specs.Status.{supplies};
+ghost use Rattle.device.specs.Device.{device};
+ghost use Rattle.device.specs.Step.{write, read, measure, sample, alertResponse, step};
+ghost use Rattle.lent.specs.Lent.{beside, powered};
+use page::Page;
+use unpaged::Unpaged;
+
+pub mod every; // every.rt: one write on every record, where PAGE is FFh
+pub mod turns; // turns.rt: what a call decides, by value
+
+// The unpaged part after a call, and the answer number.
+#[repr(C)]
+pub struct Outcome {
+    pub unpaged: Unpaged,
+    pub answer: u8,
+}
+
+// Sets every record, whatever it held. With no record, or more than 96, it sets none and answers 15.
+#[no_mangle]
+pub extern "C" fn tongsorrel_lent_power_on(pages: &mut [Page]) -> Outcome
+    ensures { λ r. ⌜ beside r (now (pages .exit)) ≡ powered (now (pages .entry)) ⌝ }
+{
+    let n = pages.len();
+    let r = turns::powered(n);
+    if r.answer != answer::DONE {
+        return r;
+    }
+    records::power_on(pages);
+    r
+}
+
+// A write transaction: the bytes from START to STOP.
+#[no_mangle]
+pub extern "C" fn tongsorrel_lent_write(u: Unpaged, pages: &mut [Page], bytes: &[u8]) -> Outcome
+    ensures { λ r. ⌜ beside r (now (pages .exit)) ≡ step (device u (now (pages .entry))) (write (now (bytes .entry))) .done ⌝ }
+{
+    let seen = records::survey(pages);
+    let p = records::take(pages, u.page);
+    let w = writes::asked::asked(bytes);
+    let t = turns::write_turn(bytes, seen, u, p, w);
+    records::put(pages, u.page, t.page);
+    let rose = every::every(pages, w, t.every);
+    let standing = records::any_bit(pages, t.clears);
+    turns::finished(t.outcome, t.clears, rose, standing)
+}
+
+// A read transaction: its header, and as many reply bytes as the host clocks.
+#[no_mangle]
+pub extern "C" fn tongsorrel_lent_read(u: Unpaged, pages: &[Page], header: &[u8], reply: &mut [u8]) -> Outcome
+    ensures { λ r. ⌜ (beside r (now (pages .entry)) ≡ step (device u (now (pages .entry))) (read (now (header .entry)) (length (now (reply .entry)))) .done)
+        × (now (reply .exit) ≡ step (device u (now (pages .entry))) (read (now (header .entry)) (length (now (reply .entry)))) .reply) ⌝ }
+{
+    let n = reply.len();
+    let seen = records::survey(pages);
+    let p = records::take(pages, u.page);
+    let t = turns::read_turn(header, seen, u, p, n);
+    reads::reply::send(reply, t.stream);
+    t.outcome
+}
+
+// The latest word of a quantity (0 VOUT, 1 IOUT, 2 VIN, 3 temperature) on a page.
+#[no_mangle]
+pub extern "C" fn tongsorrel_lent_measure(u: Unpaged, pages: &mut [Page], page: u8, quantity: u8, word: u16) -> Outcome
+    ensures { λ r. ⌜ beside r (now (pages .exit)) ≡ step (device u (now (pages .entry))) (measure page quantity word) .done ⌝ }
+{
+    let seen = records::survey(pages);
+    let p = records::take(pages, page);
+    let t = turns::measure_turn(seen, u, p, page, quantity, word);
+    records::put(pages, page, t.page);
+    t.outcome
+}
+
+// A power sample for the energy account.
+#[no_mangle]
+pub extern "C" fn tongsorrel_lent_sample(u: Unpaged, pages: &[Page], power: u16) -> Outcome
+    ensures { λ r. ⌜ beside r (now (pages .entry)) ≡ step (device u (now (pages .entry))) (sample power) .done ⌝ }
+{
+    let seen = records::survey(pages);
+    turns::sample_outcome(seen, u, power)
+}
+
+// The alert response: the device that holds the alert up answers with its address.
+#[no_mangle]
+pub extern "C" fn tongsorrel_lent_alert_response(u: Unpaged, pages: &[Page], reply: &mut [u8]) -> Outcome
+    ensures { λ r. ⌜ (beside r (now (pages .entry)) ≡ step (device u (now (pages .entry))) (alertResponse (length (now (reply .entry)))) .done)
+        × (now (reply .exit) ≡ step (device u (now (pages .entry))) (alertResponse (length (now (reply .entry)))) .reply) ⌝ }
+{
+    let n = reply.len();
+    let seen = records::survey(pages);
+    let t = turns::alert_turn(seen, u, n);
+    reads::reply::send(reply, t.stream);
+    t.outcome
+}
+
+// Whether page i supplies; no page beyond the records does.
+#[no_mangle]
+pub extern "C" fn tongsorrel_lent_supplies(pages: &[Page], i: u8) -> bool
+    ensures { λ r. ⌜ r ≡ (ltb i (length (now (pages .entry))) && supplies (getD (now (pages .entry)) i noPage)) ⌝ }
+{
+    let p = records::take(pages, i);
+    page::status::supplies(p)
+}

@@ -1,0 +1,5 @@
+pub mod Alike
+pub mod Changes
+pub mod Loans
+pub mod Runs
+pub mod Claims

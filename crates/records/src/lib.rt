@@ -1,0 +1,94 @@
+// Page records lent as a slice: how many there are and whether all are valid, one record taken out and put back, and the
+// walks over all of them. No rule is decided here; a record goes to a rule by value and comes back.
+ghost use mathlib.Core.Path.{_≡_};
+ghost use mathlib.Core.Bool.{_&&_};
+ghost use lib.ListN.{length, getD, set, replicate};
+ghost use Rattle.laws.specs.Lists.{anyOf};
+ghost use Rattle.page.specs.Page.{powerOnPage};
+ghost use Rattle.page.specs.Status.{anyStatus};
+ghost use Rattle.records.specs.Records.{counted, surveyed};
+use page::Page;
+
+// What a call has to know of all records before it begins: how many there are, 97 standing for every number above 96, and
+// whether each is valid.
+pub struct Seen {
+    pub number: u8,
+    pub valid: bool,
+}
+
+// A slice may hold more records than a byte counts: the number is compared before it is cut.
+fn counted(n: usize, valid: bool) -> Seen
+    ensures { λ r. ⌜ r ≡ counted n valid ⌝ }
+{
+    if n < 97 {
+        return Seen {
+            number: n as u8,
+            valid: valid,
+        };
+    }
+    Seen {
+        number: 97,
+        valid: valid,
+    }
+}
+
+pub fn survey(pages: &[Page]) -> Seen
+    ensures { λ r. ⌜ r ≡ surveyed (now (pages .entry)) ⌝ }
+{
+    let mut valid = true;
+    let mut i: usize = 0;
+    while i < pages.len() {
+        valid = valid & page::settings::page_valid(pages[i]);
+        i = i + 1;
+    }
+    counted(i, valid)
+}
+
+// Record i; past the end a page as power-on leaves it.
+pub fn take(pages: &[Page], i: u8) -> Page
+    ensures { λ r. ⌜ r ≡ getD (now (pages .entry)) i powerOnPage ⌝ }
+{
+    let k = i as usize;
+    if k < pages.len() {
+        return pages[k];
+    }
+    page::power_on_page()
+}
+
+// Sets record i; past the end it sets none.
+pub fn put(pages: &mut [Page], i: u8, p: Page)
+    ensures { λ _. ⌜ now (pages .exit) ≡ set (now (pages .entry)) i p ⌝ }
+{
+    let k = i as usize;
+    if k < pages.len() {
+        pages[k] = p;
+    }
+}
+
+// Some status bit of some record is 1. Where that is not wanted no record is looked at.
+pub fn any_bit(pages: &[Page], wanted: bool) -> bool
+    ensures { λ r. ⌜ r ≡ (wanted && anyOf anyStatus (now (pages .entry))) ⌝ }
+{
+    let mut found = false;
+    if !wanted {
+        return found;
+    }
+    let mut i: usize = 0;
+    while i < pages.len() {
+        found = found | page::status::any_status(pages[i]);
+        i = i + 1;
+    }
+    found
+}
+
+// Every record as power-on leaves it.
+pub fn power_on(pages: &mut [Page])
+    ensures { λ _. ⌜ now (pages .exit) ≡ replicate (length (now (pages .entry))) powerOnPage ⌝ }
+{
+    let p = page::power_on_page();
+    let mut i: usize = 0;
+    while i < pages.len() {
+        pages[i] = p;
+        i = i + 1;
+    }
+}

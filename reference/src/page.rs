@@ -1,0 +1,277 @@
+//! One page, one supply: its fields, its causes, what an accepted write does to it
+//! and whether it supplies (data sheet, sections 6 and 7).
+
+use crate::linear11;
+use std::cmp::Ordering;
+
+// Quantities, which are also the places of the status registers 7Ah to 7Dh.
+pub const VOUT: usize = 0;
+pub const IOUT: usize = 1;
+pub const VIN: usize = 2;
+pub const TEMPERATURE: usize = 3;
+
+// Causes, in the order of their limit codes 40, 46, 4F, 53, 55, 59.
+pub const VOUT_OV: usize = 0;
+pub const IOUT_OC: usize = 1;
+pub const OT: usize = 2;
+pub const UT: usize = 3;
+pub const VIN_OV: usize = 4;
+pub const VIN_UV: usize = 5;
+
+/// What makes a cause present and which bit it sets.
+struct Cause {
+    quantity: usize,
+    /// The side of the limit on which the measurement must strictly lie.
+    side: Ordering,
+    bit: u8,
+}
+
+const fn cause(quantity: usize, side: Ordering, bit: u8) -> Cause {
+    Cause {
+        quantity,
+        side,
+        bit,
+    }
+}
+
+const CAUSES: [Cause; 6] = [
+    cause(VOUT, Ordering::Greater, 0x80),
+    cause(IOUT, Ordering::Greater, 0x80),
+    cause(TEMPERATURE, Ordering::Greater, 0x80),
+    cause(TEMPERATURE, Ordering::Less, 0x10),
+    cause(VIN, Ordering::Greater, 0x80),
+    cause(VIN, Ordering::Less, 0x10),
+];
+
+/// What a response byte asks for.
+#[derive(Clone, Copy, PartialEq, Eq)]
+enum Action {
+    GoOn,
+    ShutDown,
+    OffWhileFaultLasts,
+}
+
+/// The action of a response byte, or none when it is not valid data.
+/// Response 47 has the action codes of section 10.5.2, the others those of 10.5.1.
+fn action(cause: usize, response: u8) -> Option<Action> {
+    match (cause, response) {
+        (_, 0x00) => Some(Action::GoOn),
+        (IOUT_OC, 0xC0) => Some(Action::ShutDown),
+        (IOUT_OC, _) => None,
+        (_, 0x80) => Some(Action::ShutDown),
+        (_, 0xC0) => Some(Action::OffWhileFaultLasts),
+        _ => None,
+    }
+}
+
+/// The cause whose limit is at `code`.
+fn limit_of(code: u8) -> Option<usize> {
+    match code {
+        0x40 => Some(VOUT_OV),
+        0x46 => Some(IOUT_OC),
+        0x4F => Some(OT),
+        0x53 => Some(UT),
+        0x55 => Some(VIN_OV),
+        0x59 => Some(VIN_UV),
+        _ => None,
+    }
+}
+
+/// The cause whose response is at `code`.
+fn response_of(code: u8) -> Option<usize> {
+    match code {
+        0x41 => Some(VOUT_OV),
+        0x47 => Some(IOUT_OC),
+        0x50 => Some(OT),
+        0x54 => Some(UT),
+        0x56 => Some(VIN_OV),
+        0x5A => Some(VIN_UV),
+        _ => None,
+    }
+}
+
+fn operation_valid(data: u8) -> bool {
+    matches!(data, 0x00 | 0x40 | 0x80)
+}
+
+/// The latest measurement of one quantity. Without `measured`, `word` has no
+/// meaning: it reads as 0000h and makes no cause present.
+#[derive(Clone, Copy, Debug, Default, PartialEq, Eq)]
+pub struct Reading {
+    pub measured: bool,
+    pub word: u16,
+}
+
+/// One page: one supply.
+#[derive(Clone, Copy, Debug, PartialEq, Eq)]
+pub struct Page {
+    pub operation: u8,
+    pub vout_command: u16,
+    /// By cause: VOUT_OV, IOUT_OC, OT, UT, VIN_OV, VIN_UV.
+    pub limits: [u16; 6],
+    /// By cause, as the limits.
+    pub responses: [u8; 6],
+    /// By quantity: STATUS_VOUT, STATUS_IOUT, STATUS_INPUT, STATUS_TEMPERATURE.
+    pub status: [u8; 4],
+    pub tripped: bool,
+    /// By quantity: VOUT, IOUT, VIN, temperature.
+    pub readings: [Reading; 4],
+}
+
+impl Page {
+    pub fn power_on() -> Page {
+        Page {
+            operation: 0x00,
+            vout_command: 0x2666,
+            limits: [0x2A3D, 0xD280, 0xEB70, 0xEEC0, 0xD3FF, 0xC3F5],
+            responses: [0x80, 0xC0, 0x80, 0x80, 0x80, 0x80],
+            status: [0; 4],
+            tripped: false,
+            readings: [Reading::default(); 4],
+        }
+    }
+
+    /// Whether OPERATION and the six responses are valid data.
+    pub fn valid(&self) -> bool {
+        operation_valid(self.operation)
+            && (0..6).all(|cause| action(cause, self.responses[cause]).is_some())
+    }
+
+    /// Whether a cause is present (data sheet 6.2).
+    pub fn present(&self, cause: usize) -> bool {
+        let Cause { quantity, side, .. } = CAUSES[cause];
+        let reading = self.readings[quantity];
+        let limit = self.limits[cause];
+        let place = match quantity {
+            VOUT => linear11::order_vout(reading.word, limit),
+            _ => linear11::order(reading.word, limit),
+        };
+        reading.measured && place == side
+    }
+
+    /// Whether some present cause has a response of this action.
+    fn has(&self, wanted: Action) -> bool {
+        (0..6).any(|cause| {
+            self.present(cause) && action(cause, self.responses[cause]) == Some(wanted)
+        })
+    }
+
+    /// Whether the page supplies (data sheet 7.6).
+    pub fn supplies(&self) -> bool {
+        self.operation == 0x80 && !self.tripped && !self.has(Action::OffWhileFaultLasts)
+    }
+
+    /// Sets the bits of the present causes and trips the page where one of them
+    /// has the response "shut down, stay off". Tells whether a bit rose.
+    pub(crate) fn bring_up_to_date(&mut self) -> bool {
+        let before = self.status;
+        for (index, cause) in CAUSES.iter().enumerate() {
+            if self.present(index) {
+                self.status[cause.quantity] |= cause.bit;
+            }
+        }
+        if self.has(Action::ShutDown) {
+            self.tripped = true;
+        }
+        self.status != before
+    }
+
+    /// The latest word of a quantity, or 0000h.
+    fn latest(&self, quantity: usize) -> u16 {
+        let reading = self.readings[quantity];
+        if reading.measured {
+            reading.word
+        } else {
+            0
+        }
+    }
+
+    /// The data of a readable paged code, in a field of seven bytes.
+    pub(crate) fn data(&self, code: u8, cml: u8) -> [u8; 7] {
+        match code {
+            0x01 => one(self.operation),
+            0x21 => two(self.vout_command),
+            0x78 => one(self.status_byte(cml)),
+            0x79 => two(self.status_word(cml)),
+            0x7A..=0x7D => one(self.status[usize::from(code - 0x7A)]),
+            0x88 => two(self.latest(VIN)),
+            0x8B => two(self.latest(VOUT)),
+            0x8C => two(self.latest(IOUT)),
+            0x8D => two(self.latest(TEMPERATURE)),
+            _ => match (limit_of(code), response_of(code)) {
+                (Some(cause), _) => two(self.limits[cause]),
+                (_, Some(cause)) => one(self.responses[cause]),
+                (None, None) => unreachable!("code {code:02x} is not read"),
+            },
+        }
+    }
+
+    fn status_byte(&self, cml: u8) -> u8 {
+        let [vout, iout, input, temperature] = self.status;
+        let other = (vout & !0x80) | (iout & !0xC0) | (input & !0x10);
+        u8::from(!self.supplies()) << 6
+            | u8::from(vout & 0x80 != 0) << 5
+            | u8::from(iout & 0xC0 != 0) << 4
+            | u8::from(input & 0x10 != 0) << 3
+            | u8::from(temperature != 0) << 2
+            | u8::from(cml != 0) << 1
+            | u8::from(other != 0)
+    }
+
+    /// Low byte STATUS_BYTE, high byte bits 7, 6, 5 and 3.
+    fn status_word(&self, cml: u8) -> u16 {
+        let [vout, iout, input, _] = self.status;
+        let high = u8::from(vout != 0) << 7
+            | u8::from(iout != 0) << 6
+            | u8::from(input != 0) << 5
+            | u8::from(!self.supplies()) << 3;
+        u16::from_le_bytes([self.status_byte(cml), high])
+    }
+
+    /// Carries out an accepted write of a paged command. What it clears of a present
+    /// cause comes back when the page is brought up to date.
+    pub(crate) fn store(&mut self, code: u8, data: &[u8]) {
+        if code == 0x03 {
+            self.status = [0; 4];
+        } else if (0x7A..=0x7D).contains(&code) {
+            // Each 1 clears its bit, each 0 spares it.
+            self.status[usize::from(code - 0x7A)] &= !data[0];
+        } else if let Some(cause) = limit_of(code) {
+            self.limits[cause] = word(data);
+        } else if let Some(cause) = response_of(code) {
+            self.responses[cause] = data[0];
+        } else if code == 0x21 {
+            self.vout_command = word(data);
+        } else if code == 0x01 {
+            self.operation = data[0];
+            // 00h and 40h untrip; a cause still present trips again afterwards.
+            if data[0] != 0x80 {
+                self.tripped = false;
+            }
+        }
+    }
+}
+
+/// Whether the data of a paged code are valid. Words and ones that clear: any.
+pub(crate) fn data_valid(code: u8, data: &[u8]) -> bool {
+    match (code, response_of(code)) {
+        (0x01, _) => operation_valid(data[0]),
+        (_, Some(cause)) => action(cause, data[0]).is_some(),
+        _ => true,
+    }
+}
+
+/// A word from its two bytes, low byte first.
+fn word(data: &[u8]) -> u16 {
+    u16::from_le_bytes([data[0], data[1]])
+}
+
+// Reply data in a field of seven bytes; the table's length says how many count.
+pub(crate) fn one(byte: u8) -> [u8; 7] {
+    [byte, 0, 0, 0, 0, 0, 0]
+}
+
+fn two(word: u16) -> [u8; 7] {
+    let [low, high] = word.to_le_bytes();
+    [low, high, 0, 0, 0, 0, 0]
+}

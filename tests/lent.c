@@ -1,0 +1,197 @@
+/* The device over lent records from C. Without an argument: numbers of records, values in them and a selected page that get 15, and what each call
+ * leaves of the bytes of every record. With a number of records: a frame file (section 13) on that many, for a comparison with the second
+ * program. */
+#include "tongsorrel.h"
+
+#include <stdio.h>
+#include <stdlib.h>
+#include <string.h>
+
+enum { LINE = 512, FENCE = 1, ROOM = TONGSORREL_MOST_PAGES + 1 + 2 * FENCE };
+
+/* The records lent stand between two that are not. */
+static tongsorrel_page room[ROOM], before[ROOM];
+static tongsorrel_page *const pages = room + FENCE;
+static int failures;
+
+static void expect(bool holds, const char *what, size_t number) {
+    if (!holds) {
+        printf("  C: FAILED with %zu records: %s\n", number, what);
+        failures++;
+    }
+}
+
+/* ---- the calls one by one */
+
+static uint32_t seed = 1;
+
+static uint8_t any(void) {
+    seed = seed * 1664525u + 1013904223u;
+    return (uint8_t)(seed >> 24);
+}
+
+/* Any bytes in every record; a bool holds 0 or 1. */
+static void scribble(void) {
+    for (size_t i = 0; i < sizeof room; i++) ((uint8_t *)room)[i] = any();
+    for (size_t i = 0; i < ROOM; i++) {
+        for (int q = 0; q < TONGSORREL_QUANTITIES; q++) *(uint8_t *)&room[i].measured[q] &= 1;
+        *(uint8_t *)&room[i].tripped &= 1;
+    }
+    memcpy(before, room, sizeof room);
+}
+
+static bool untouched(void) { return memcmp(before, room, sizeof room) == 0; }
+
+/* Every byte is as it was but those of record i. */
+static bool only(size_t i) {
+    tongsorrel_page changed = pages[i];
+    pages[i] = before[FENCE + i];
+    bool same = untouched();
+    pages[i] = changed;
+    return same;
+}
+
+/* All five calls get 15, and no byte of a record and nothing of the unpaged part changes. */
+static void refused(tongsorrel_unpaged unpaged, size_t number) {
+    static const uint8_t write[] = {0xC0, 0x01, 0x80}, header[] = {0xC0, 0x79, 0xC1};
+    uint8_t reply[3] = {0, 0, 0x55};
+    memcpy(before, room, sizeof room);
+    tongsorrel_outcome all[] = {
+        tongsorrel_lent_write(unpaged, pages, number, write, sizeof write),
+        tongsorrel_lent_measure(unpaged, pages, number, 0, TONGSORREL_VOUT, 0x7BFF),
+        tongsorrel_lent_sample(unpaged, pages, number, 1000),
+        tongsorrel_lent_alert_response(unpaged, pages, number, reply, 1),
+        tongsorrel_lent_read(unpaged, pages, number, header, sizeof header, reply, 2),
+    };
+    for (size_t i = 0; i < sizeof all / sizeof all[0]; i++) {
+        expect(all[i].answer == TONGSORREL_INVALID_STATE, "15", number);
+        expect(memcmp(&all[i].unpaged, &unpaged, sizeof unpaged) == 0, "15 leaves the unpaged part", number);
+    }
+    expect(untouched(), "15 leaves every record", number);
+    expect(reply[0] == 0xFF && reply[1] == 0xFF && reply[2] == 0x55, "the reply under 15 is FFh", number);
+}
+
+static tongsorrel_unpaged powered(size_t number) {
+    scribble();
+    tongsorrel_outcome done = tongsorrel_lent_power_on(pages, number);
+    expect(done.answer == 0 && done.unpaged.page == 0 && !done.unpaged.alert, "power-on", number);
+    tongsorrel_page fresh = tongsorrel_power_on().pages[0];
+    for (size_t i = 0; i < number; i++) expect(memcmp(&pages[i].limits, &fresh.limits, sizeof fresh.limits) == 0 && !pages[i].tripped, "a record", number);
+    expect(memcmp(before, room, sizeof *room) == 0 && memcmp(before + FENCE + number, pages + number, sizeof *room) == 0, "beside them", number);
+    memcpy(before, room, sizeof room);
+    return done.unpaged;
+}
+
+static void number_lent(size_t number) {
+    const uint8_t last = (uint8_t)(number - 1);
+    tongsorrel_unpaged unpaged = powered(number);
+    uint8_t select[] = {0xC0, TONGSORREL_CODE_PAGE, (uint8_t)number}, on[] = {0xC0, TONGSORREL_CODE_OPERATION, 0x80};
+    expect(tongsorrel_lent_write(unpaged, pages, number, select, 3).answer == TONGSORREL_INVALID_DATA, "PAGE beyond the records", number);
+    expect(tongsorrel_lent_measure(unpaged, pages, number, (uint8_t)number, 0, 0).answer == TONGSORREL_NO_SUCH_PLACE, "a page beyond", number);
+    expect(untouched(), "a refusal leaves every record", number);
+    select[2] = last;
+    unpaged = tongsorrel_lent_write(unpaged, pages, number, select, 3).unpaged;
+    expect(unpaged.page == last, "the last page is selected", number);
+    unpaged = tongsorrel_lent_write(unpaged, pages, number, on, 3).unpaged;
+    expect(pages[last].operation == 0x80 && only(last), "a write changes the selected record alone", number);
+    expect(tongsorrel_lent_supplies(pages, number, last), "the last page supplies", number);
+    expect(!tongsorrel_lent_supplies(pages, number, (uint8_t)number), "no page beyond supplies", number);
+    memcpy(before, room, sizeof room);
+    unpaged = tongsorrel_lent_measure(unpaged, pages, number, last, TONGSORREL_VOUT, 0x7BFF).unpaged;
+    expect(unpaged.alert && pages[last].tripped && only(last), "a measurement changes its page's record alone", number);
+    select[2] = 0xFF, on[2] = 0x40;
+    unpaged = tongsorrel_lent_write(unpaged, pages, number, select, 3).unpaged;
+    unpaged = tongsorrel_lent_write(unpaged, pages, number, on, 3).unpaged;
+    for (size_t i = 0; i < number; i++) expect(pages[i].operation == 0x40, "under FFh a write changes every record", number);
+    unpaged.page = (uint8_t)number;
+    refused(unpaged, number);
+    unpaged.page = 0;
+    pages[last].operation = 0x01;
+    refused(unpaged, number);
+}
+
+static void wrong_number(size_t number) {
+    tongsorrel_unpaged unpaged = powered(8);
+    refused(unpaged, number);
+    scribble();
+    tongsorrel_outcome done = tongsorrel_lent_power_on(pages, number);
+    expect(done.answer == TONGSORREL_INVALID_STATE && untouched(), "power-on leaves every record", number);
+    expect(memcmp(&done.unpaged, &unpaged, sizeof unpaged) == 0, "the unpaged part of power-on", number);
+}
+
+static void one_by_one(void) {
+    number_lent(1);
+    number_lent(8);
+    number_lent(96);
+    wrong_number(0);
+    wrong_number(97);
+    for (size_t number = 1; number <= 96; number += 5) {
+        tongsorrel_unpaged unpaged = powered(number);
+        scribble();
+        pages[number - 1].operation = 0xFF;
+        refused(unpaged, number);
+    }
+    if (failures == 0) printf("  C: 1, 8, 96, 0 and 97 records, and records of any bytes, hold through tongsorrel.h\n");
+}
+
+/* ---- a frame file */
+
+static int digit(int c) {
+    static const char digits[] = "0123456789abcdef";
+    const char *at = c ? strchr(digits, c) : NULL;
+    return at ? (int)(at - digits) : -1;
+}
+
+/* The bytes of a line, or 0 where it is bad. */
+static size_t frame_of(const char *line, size_t length, uint8_t *frame) {
+    if (length > LINE || length % 2) return 0;
+    for (size_t i = 0; i < length; i++) {
+        int value = digit((unsigned char)line[i]);
+        if (value < 0) return 0;
+        frame[i / 2] = (uint8_t)(frame[i / 2] << 4 | value);
+    }
+    return length / 2;
+}
+
+static uint16_t word(const uint8_t *low) { return (uint16_t)(low[0] | low[1] << 8); }
+
+/* The call of a frame, and how many reply bytes it has; answer FFh where it is none. */
+static tongsorrel_outcome call(tongsorrel_unpaged unpaged, size_t number, const uint8_t *frame, size_t length, uint8_t *reply, size_t *n) {
+    *n = length > 1 && (frame[0] == 2 || (frame[0] == 5 && length == 2)) ? frame[1] : 0;
+    if (length >= 1 && frame[0] == 1) return tongsorrel_lent_write(unpaged, pages, number, frame + 1, length - 1);
+    if (length >= 2 && frame[0] == 2) return tongsorrel_lent_read(unpaged, pages, number, frame + 2, length - 2, reply, *n);
+    if (length == 5 && frame[0] == 3) return tongsorrel_lent_measure(unpaged, pages, number, frame[1], frame[2], word(frame + 3));
+    if (length == 3 && frame[0] == 4) return tongsorrel_lent_sample(unpaged, pages, number, word(frame + 1));
+    if (length == 2 && frame[0] == 5) return tongsorrel_lent_alert_response(unpaged, pages, number, reply, *n);
+    return (tongsorrel_outcome){unpaged, 0xFF};
+}
+
+/* The next line, of which one character more than the longest good line has is kept. */
+static bool next_line(char *line, size_t *length) {
+    int c;
+    *length = 0;
+    while ((c = getchar()) != EOF && c != '\n')
+        if (*length <= LINE) line[(*length)++] = (char)c;
+    return c != EOF || *length > 0;
+}
+
+static void frames(size_t number) {
+    char line[LINE + 1];
+    size_t characters, n;
+    tongsorrel_unpaged unpaged = tongsorrel_lent_power_on(pages, number).unpaged;
+    while (next_line(line, &characters)) {
+        uint8_t frame[LINE / 2] = {0}, reply[256];
+        size_t length = frame_of(line, characters, frame);
+        tongsorrel_outcome done = call(unpaged, number, frame, length, reply, &n);
+        unpaged = done.unpaged;
+        printf("%02x", done.answer);
+        for (size_t i = 0; i < n; i++) printf("%02x", reply[i]);
+        printf("\n");
+    }
+}
+
+int main(int count, char **arguments) {
+    if (count > 1) frames((size_t)atoi(arguments[1]));
+    else one_by_one();
+    return failures != 0;
+}
