@@ -23,7 +23,7 @@
 extern "C" {
 #endif
 
-#define TONGSORREL_STACK 2048
+#define TONGSORREL_STACK 1536
 
 /* ---- names */
 

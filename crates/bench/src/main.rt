@@ -1,10 +1,16 @@
 // The bench program: a frame file (data sheet 13.1) on standard input, the answers on standard output. What a line does, and that
 // the blocks of a file give the text of its lines, is proved in `frame`; here are the reads and the writes.
-ghost use Prim.Native.Nat.{_≤_, _<_};
-ghost use lib.ListN.{length};
+ghost use Prim.Native.Nat.{ℕ, _≤_, _<_};
+ghost use mathlib.Core.Path.{_≡_};
+ghost use mathlib.Core.Bool.{true};
+ghost use mathlib.Core.List.{List};
+ghost use lib.ListN.{length, take};
+ghost use Rattle.frame.specs.Blocks.{feed};
 ghost use Rattle.io.specs.Counts.{Counts};
+ghost use Rattle.bench.specs.Held.{Leaves, Reached, toRun};
 use device::Device;
 use frame::blocks;
+use libc::STDERR_FILENO;
 use libc::STDIN_FILENO;
 use libc::STDOUT_FILENO;
 
@@ -15,9 +21,15 @@ struct Between {
     going: bool,
 }
 
+// Says on standard error that a write failed. There is nothing to do where that fails too.
+fn say_write_failed() {
+    io::write_all(STDERR_FILENO, b"bench: write failed\n");
+}
+
 // Runs a whole block and writes its text. It stops where a write fails.
 fn feed(d: Device, line: &mut [u8], n: usize, block: &[u8], out: &mut [u8]) -> Between
     requires { ⌜ 513 ≤ length (now out) ⌝ }
+    ensures { λ r. ⌜ (r .going ≡ true → Leaves (feed d (now (line .entry)) n (now (block .entry))) (r .device) (now (line .exit)) (r .length)) ⌝ }
 {
     let mut e = d;
     let mut k = n;
@@ -26,6 +38,7 @@ fn feed(d: Device, line: &mut [u8], n: usize, block: &[u8], out: &mut [u8]) -> B
         let p = blocks::run_block(e, line, k, block, at, out);
         let m = p.written;
         if !io::write_all(STDOUT_FILENO, &out[..m]) {
+            say_write_failed();
             return Between {
                 device: e,
                 length: 0,
@@ -48,6 +61,7 @@ fn feed(d: Device, line: &mut [u8], n: usize, block: &[u8], out: &mut [u8]) -> B
 fn closed(read: usize, n: usize, block: &mut [u8]) -> usize
     requires { ⌜ (0 < length (now block)) × Counts read (now block) ⌝ }
     ensures { λ r. ⌜ Counts r (now (block .exit)) ⌝ }
+    ensures { λ r. ⌜ take r (now (block .exit)) ≡ toRun read n (now (block .entry)) ⌝ }
 {
     if 0 < read {
         return read;
@@ -59,9 +73,11 @@ fn closed(read: usize, n: usize, block: &mut [u8]) -> usize
     1
 }
 
-// Reads a block and runs it. A read that fails counts as the end of the input.
+// Reads a block and runs it. A read that fails counts as the end of the input. What was read is not known; that it is run on what the
+// blocks before left is.
 fn turn(d: Device, line: &mut [u8], n: usize, block: &mut [u8], out: &mut [u8]) -> Between
-    requires { ⌜ (0 < length (now block)) × (513 ≤ length (now out)) ⌝ }
+    requires { ⌜ (0 < length (now block)) × (513 ≤ length (now out)) × Reached d (now line) n ⌝ }
+    ensures { λ r. ⌜ (r .going ≡ true → (read : ℕ) × (bytes : List ℕ) × Leaves (feed d (now (line .entry)) n (toRun read n bytes)) (r .device) (now (line .exit)) (r .length)) ⌝ }
 {
     let got = libc::read(STDIN_FILENO, block);
     let read = io::count(got, block);

@@ -14,6 +14,8 @@ use Rattle.page.specs.declared.Page.{Page}
 use Rattle.page.specs.Page.{noPage}
 use Rattle.unpaged.specs.Unpaged.{validPage, everyPage, cmlBits}
 use Rattle.unpaged.specs.Events.{measureAnswer}
+use Rattle.writes.specs.declared.asked.Write.{Write}
+use Rattle.writes.specs.Asked.{asked}
 use Rattle.reads.specs.Answers.{readAnswer, answersData}
 use Rattle.reads.specs.Data.{readStream}
 use Rattle.reads.specs.Reply.{stream, streamOf, replyOf}
@@ -23,7 +25,7 @@ use Rattle.reads.proofs.EveryPage.{same-data, no-data}
 use Rattle.reads.proofs.Lengths.{stream-length, alert-length}
 use Rattle.device.specs.declared.Device.{Device}
 use Rattle.device.specs.Device.{deviceValid}
-use Rattle.device.specs.Step.{Call, write, read, measure, alertResponse, answerOf, answered, effect, refusedDevice, left, sent, clocked, done, step}
+use Rattle.device.specs.Step.{Call, write, read, measure, alertResponse, answerOf, answered, written, effect, refusedDevice, left, sent, clocked, done, step}
 use Rattle.device.proofs.States.{valid-parts, answered-valid, answer-zero}
 use Rattle.device.proofs.Refused.{device-stays}
 
@@ -42,7 +44,17 @@ module _ (d : Device) (c : Call) where
   unfolding step
   replied s r a e f g h = g ∙ rw (f, h, e)
 
+-- answer 0 is the rule's
+pub rule-zero : (valid : Bool) (rule a : ℕ) → a ≡ cond valid rule 15 → a ≡ 0 → rule ≡ 0
+rule-zero true rule a e z = sym e ∙ z
+rule-zero false rule a e z = absurd (omega arith)
+
 module _ (d : Device) where
+  -- a write that asks for w where it is accepted
+  pub write-left : (s : List ℕ) (w : Write) (a : ℕ) → (a ≡ 0 → w ≡ asked s) → cond (eqb a 0) (written d w) (refusedDevice d a) ≡ left d (write s) a
+  unfolding left effect
+  write-left s w a h = either (eqb a 0) (λ y. rw (y, h (eqb-true a 0 y))) (λ n. rw n)
+
   -- PAGE of a valid state
   pub valid-page : deviceValid d ≡ true → validPage (length (d .pages)) (d .unpaged .page) ≡ true
   valid-page v = valid-parts d v .page

@@ -3,3 +3,5 @@ pub mod Refused
 pub mod OnePage
 pub mod Calls
 pub mod EveryPage
+pub mod Range
+pub mod Written

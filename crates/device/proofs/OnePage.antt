@@ -1,35 +1,28 @@
 -- A write to the selected page and a measurement set one page, and raise the alert with its bits.
 -- Assumes nothing.
 use Prim.Native.Nat.{ℕ, _<_}
-use mathlib.Core.Path.{_≡_, refl, sym, ap, ap₂, _∙_}
-use mathlib.Core.Bool.{Bool, true, false, cond, _||_}
+use mathlib.Core.Path.{_≡_, refl, sym}
+use mathlib.Core.Bool.{false, cond, _||_}
 use mathlib.Core.List.{List}
 use lib.Dec.{eqb}
 use lib.ListN.{length, set}
 use borrow.Author.Tests.{eq-eqb, ne-eqb}
 use Rattle.laws.specs.Lists.{anyOf, mapAt}
-use Rattle.laws.proofs.Branches.{either}
 use Rattle.laws.proofs.Places.{map-one, pair-set}
 use Rattle.page.specs.declared.Page.{Page}
 use Rattle.page.specs.Page.{noPage}
 use Rattle.page.specs.Causes.{settled}
 use Rattle.page.specs.Settings.{setMeasurement}
-use Rattle.page.specs.Status.{any, anyStatus, gains, risen}
+use Rattle.page.specs.Status.{any, anyStatus, risen}
 use Rattle.page.proofs.Bits.{gains-none, risen-none}
 use Rattle.unpaged.specs.declared.Unpaged.{Unpaged}
 use Rattle.unpaged.specs.Unpaged.{everyPage, actsOn, withAlert}
 use Rattle.writes.specs.declared.asked.Write.{Write}
 use Rattle.writes.specs.Left.{pageLeft, unpagedLeft, clearing}
-use Rattle.writes.proofs.Kept.{alert-kept, cml-kept}
 use Rattle.device.specs.declared.Device.{Device}
-use Rattle.device.specs.Device.{device, pageOf, turned, alertRisen, alertStanding}
-use Rattle.device.specs.Step.{writtenTo, written, measured}
-
--- the bits that turned where one page was set, and STATUS_CML kept
-turned-one : (d e : Device) (k : ℕ) (q : Page) → k < length (d .pages) → e .unpaged .cml ≡ d .unpaged .cml → e .pages ≡ set (d .pages) k q
-    → turned d e ≡ risen (pageOf d k) q
-turned-one d e k q h cml pages =
-    rw (cml, gains-none (d .unpaged .cml), pages) (pair-set noPage risen risen-none (d .pages) k q h)
+use Rattle.device.specs.Device.{device, pageOf, alertRisen}
+use Rattle.device.specs.Step.{written, measured}
+use Rattle.device.proofs.Written.{all-written}
 
 module _ (d : Device) (w : Write) (h : d .unpaged .page < length (d .pages)) (one : everyPage (d .unpaged) ≡ false) where
   abbrev k : ℕ
@@ -49,15 +42,9 @@ module _ (d : Device) (w : Write) (h : d .unpaged .page < length (d .pages)) (on
   selected =
       map-one noPage (actsOn (d .unpaged)) (pageLeft w) (d .pages) k h (rw (eq-eqb k k refl)) (λ i other. rw (ne-eqb i k other, one))
 
-  alert-risen : clearing w ≡ false → (v .alert || risen (pageOf d k) q) ≡ (d .unpaged .alert || turned d (writtenTo d w))
-  alert-risen n =
-      ap₂ _||_ (alert-kept (d .unpaged) w) (sym (turned-one d (writtenTo d w) k q h (cml-kept (d .unpaged) w n) selected))
-
   pub one-written : device (withAlert v (cond (clearing w) (anyOf anyStatus qs || any (v .cml)) (v .alert || risen (pageOf d k) q))) qs ≡ written d w
-  unfolding written alertStanding alertRisen
   one-written =
-      either (clearing w) (λ y. rw (y, selected))
-      (λ n. rw (n, alert-risen n) (ap (device (withAlert v (d .unpaged .alert || turned d (writtenTo d w)))) (sym selected)))
+      all-written d w qs (risen (pageOf d k) q) (sym selected) (sym (pair-set noPage risen risen-none (d .pages) k q h))
 
 module _ (d : Device) (k quantity word : ℕ) (h : k < length (d .pages)) where
   abbrev m : Page

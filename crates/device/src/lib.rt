@@ -41,9 +41,10 @@ pub fn write(d: Device, bytes: &[u8]) -> Done
 {
     let u = d.unpaged;
     let valid = steps::device_valid(d);
-    let rule = writes::write_answer(8, u, bytes);
-    let answer = steps::answered(valid, rule);
-    let next = steps::after_write(d, answer, bytes);
+    let j = writes::answers::judge(8, u, bytes);
+    let answer = steps::answered(valid, j.answer);
+    let w = j.write;
+    let next = steps::after_write(d, answer, w);
     Done {
         device: next,
         answer: answer,

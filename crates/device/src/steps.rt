@@ -1,7 +1,8 @@
 // The parts of a call: its answer, then what it leaves. A page is taken out, a rule works on it, and it is put back.
 ghost use mathlib.Core.Path.{_≡_};
 ghost use mathlib.Core.Bool.{true, false, cond, _||_};
-ghost use Prim.Native.Nat.{ℕ, _<_};
+ghost use Prim.Native.Nat.{ℕ, _<_, _%_, _+_};
+ghost use lib.Dec.{eqb};
 ghost use lib.ListN.{length};
 ghost use Rattle.laws.specs.Lists.{anyOf};
 ghost use Rattle.account.specs.Account.{sampled};
@@ -10,7 +11,7 @@ ghost use Rattle.writes.specs.Left.{clearing};
 ghost use Rattle.reads.specs.Reply.{stream};
 ghost use Rattle.unpaged.specs.Unpaged.{validPage, withAlert, withEnergy};
 ghost use Rattle.device.specs.Device.{device, deviceValid};
-ghost use Rattle.device.specs.Step.{write, read, measure, sample, alertResponse, answered, written, measured, effect, refusedDevice, left, sent, done, step};
+ghost use Rattle.device.specs.Step.{read, measure, sample, alertResponse, answered, written, measured, refusedDevice, left, sent, done, step};
 use super::Device;
 use super::pages;
 use account::Account;
@@ -60,68 +61,58 @@ fn alert_after(w: Write, u: Unpaged, ps: [Page; 8], rose: bool) -> bool
     u.alert | rose
 }
 
-// An accepted write where one page is selected. The device is copied once and changed in the copy.
-fn written_one(d: Device, w: Write) -> Device
-    requires { ⌜ (d .unpaged .page < 8) × (d .unpaged .page < length (d .pages)) ⌝ }
-    ensures { λ r. ⌜ r ≡ written d w ⌝ }
+// The pages that an accepted write acts on are neighbours: the first of them,
+fn first_page(page: u8) -> usize
+    ensures { λ r. ⌜ r ≡ cond (eqb page 0xFF) 0 (page % 8) ⌝ }
 {
-    let u = d.unpaged;
-    let k = (u.page % 8) as usize;
-    let mut next = d;
-    let p = next.pages[k];
-    let q = writes::left::page_left(w, p);
-    let v = writes::left::unpaged_left(w, u);
-    let rose = page::status::risen(p, q);
-    next.unpaged = v;
-    next.pages[k] = q;
-    let qs = next.pages;
-    next.unpaged.alert = alert_after(w, v, qs, rose);
-    next
-}
-
-// An accepted write where every page is selected.
-fn written_everywhere(d: Device, w: Write) -> Device
-    requires { ⌜ d .unpaged .page ≡ 0xFF ⌝ }
-    ensures { λ r. ⌜ r ≡ written d w ⌝ }
-{
-    let u = d.unpaged;
-    let ps = d.pages;
-    let qs = pages::each_left(w, ps);
-    let v = writes::left::unpaged_left(w, u);
-    let rose = pages::any_risen(ps, qs);
-    let up = alert_after(w, v, qs, rose);
-    let mut next = v;
-    next.alert = up;
-    Device {
-        unpaged: next,
-        pages: qs,
+    if page == 0xFF {
+        return 0;
     }
+    (page % 8) as usize
 }
 
+// and the number after the last.
+fn end_page(page: u8) -> usize
+    ensures { λ r. ⌜ r ≡ cond (eqb page 0xFF) 8 (page % 8 + 1) ⌝ }
+{
+    if page == 0xFF {
+        return 8;
+    }
+    (page % 8) as usize + 1
+}
+
+// An accepted write. The device is copied once and changed in the copy, page after page. One loop for one page and for all: with a way of its own
+// for all pages, whose number is known, LLVM takes the pages apart at every write.
 fn written(d: Device, w: Write) -> Device
     requires { ⌜ (length (d .pages) ≡ 8) × (validPage 8 (d .unpaged .page) ≡ true) ⌝ }
     ensures { λ r. ⌜ r ≡ written d w ⌝ }
 {
-    if d.unpaged.page == 0xFF {
-        return written_everywhere(d, w);
+    let u = d.unpaged;
+    let mut next = d;
+    let end = end_page(u.page);
+    let mut k = first_page(u.page);
+    let mut rose = false;
+    while k < end {
+        let p = next.pages[k];
+        let q = writes::left::page_left(w, p);
+        rose = rose | page::status::risen(p, q);
+        next.pages[k] = q;
+        k = k + 1;
     }
-    written_one(d, w)
+    let v = writes::left::unpaged_left(w, u);
+    let qs = next.pages;
+    next.unpaged = v;
+    next.unpaged.alert = alert_after(w, v, qs, rose);
+    next
 }
 
-fn accepted(d: Device, bytes: &[u8]) -> Device
-    requires { ⌜ (length (d .pages) ≡ 8) × (validPage 8 (d .unpaged .page) ≡ true) ⌝ }
-    ensures { λ r. ⌜ r ≡ effect d (write (now (bytes .entry))) ⌝ }
-{
-    let w = writes::asked::asked(bytes);
-    written(d, w)
-}
-
-pub fn after_write(d: Device, answer: u8, bytes: &[u8]) -> Device
-    requires { ⌜ answer ≡ answered d (write (now bytes)) ⌝ }
-    ensures { λ r. ⌜ done r answer ≡ step d (write (now (bytes .entry))) .done ⌝ }
+// A write that asks for w, where its answer is 0.
+pub fn after_write(d: Device, answer: u8, w: Write) -> Device
+    requires { ⌜ (length (d .pages) ≡ 8) × (answer ≡ 0 → validPage 8 (d .unpaged .page) ≡ true) ⌝ }
+    ensures { λ r. ⌜ (length (d .pages) ≡ 8) × (r ≡ cond (eqb answer 0) (written d w) (refusedDevice d answer)) ⌝ }
 {
     if answer == answer::DONE {
-        return accepted(d, bytes);
+        return written(d, w);
     }
     refused(d, answer)
 }

@@ -29,6 +29,10 @@ permitted protect code =
     (cond (eqb protect 0x40) (alwaysPermitted code || (eqb code 0x01 || eqb code 0x00))
     (alwaysPermitted code)))
 
+-- the answer where the form gets r and the data x
+abbrev pub byForm : ℕ → ℕ → ℕ
+byForm r x = cond (eqb r 0) x r
+
 -- Each definition below goes on where the one above it finds nothing: 8 and 9,
 unfoldable pub dataAnswer : ℕ → Unpaged → ℕ → Write → ℕ
 dataAnswer n u code w = cond (permitted (u .protect) code) (cond (validWrite n w) 0 9) 8

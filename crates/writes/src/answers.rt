@@ -1,9 +1,12 @@
-// The answer of a write, from its bytes, the unpaged part and the number of pages n. Each function goes on where the one
-// below it finds nothing to refuse: 1 and 2, then 3, then 5, 6 and 7, then 8 and 9.
+// The answer of a write, from its bytes, the unpaged part and the number of pages n: 1 and 2, then 3, then 5, 6 and 7 for
+// its form, then 8 and 9 for its data.
 ghost use mathlib.Core.Path.{_≡_};
-ghost use Prim.Native.Nat.{_≤_};
-ghost use lib.ListN.{length};
-ghost use Rattle.writes.specs.Answers.{checkRight, permitted, dataAnswer, lengthAnswer, codeAnswer, addressedAnswer, writeAnswer};
+ghost use Prim.Native.Nat.{ℕ, _≤_};
+ghost use lib.ListN.{length, getD};
+ghost use Rattle.unpaged.specs.declared.Unpaged.{Unpaged as UnpagedRecord};
+ghost use Rattle.writes.specs.declared.asked.Write.{Write as WriteKind};
+ghost use Rattle.writes.specs.Asked.{asked};
+ghost use Rattle.writes.specs.Answers.{checkRight, permitted, byForm, dataAnswer, lengthAnswer, codeAnswer, addressedAnswer, writeAnswer};
 use super::asked;
 use super::asked::Write;
 use super::bytes;
@@ -47,17 +50,18 @@ fn data_answer(n: u8, u: Unpaged, code: u8, w: Write) -> u8
     answer::DONE
 }
 
-// A write of a code with k data bytes: 5, 6 and 7 for its length and its packet check.
-fn length_answer(n: u8, u: Unpaged, s: &[u8], k: usize, code: u8, w: Write) -> u8
+// The form of a write, from its bytes alone: the answer that it gets for its form, and 0 where the data decide. A code with
+// k data bytes: 5, 6 and 7 for its length and its packet check.
+fn length_form(s: &[u8], k: usize) -> u8
     requires { ⌜ 2 ≤ length (now s) ⌝ }
-    ensures { λ r. ⌜ r ≡ lengthAnswer n u (now (s .entry)) k code w ⌝ }
+    ensures { λ r. ⌜ ((n : ℕ) (u : UnpagedRecord) (code : ℕ) (w : WriteKind) → byForm r (dataAnswer n u code w) ≡ lengthAnswer n u (now (s .entry)) k code w) ⌝ }
 {
     let given = s.len() - 2;
     if given < k {
         return answer::TOO_FEW_DATA;
     }
     if given == k {
-        return data_answer(n, u, code, w);
+        return answer::DONE;
     }
     if given - k != 1 {
         return answer::TOO_MANY_DATA;
@@ -65,34 +69,33 @@ fn length_answer(n: u8, u: Unpaged, s: &[u8], k: usize, code: u8, w: Write) -> u
     if !check_right(s) {
         return answer::WRONG_PEC;
     }
-    data_answer(n, u, code, w)
+    answer::DONE
 }
 
-// A write of a code whose table entry is e: 3 where it is absent or not written.
-fn code_answer(n: u8, u: Unpaged, s: &[u8], e: Entry, code: u8, w: Write) -> u8
+// A code whose table entry is e: 3 where it is absent or not written.
+fn code_form(s: &[u8], e: Entry) -> u8
     requires { ⌜ 2 ≤ length (now s) ⌝ }
-    ensures { λ r. ⌜ r ≡ codeAnswer n u (now (s .entry)) e code w ⌝ }
+    ensures { λ r. ⌜ ((n : ℕ) (u : UnpagedRecord) (code : ℕ) (w : WriteKind) → byForm r (dataAnswer n u code w) ≡ codeAnswer n u (now (s .entry)) e code w) ⌝ }
 {
     if !e.written {
         return answer::UNSUPPORTED_COMMAND;
     }
     let k = e.length as usize;
-    length_answer(n, u, s, k, code, w)
+    length_form(s, k)
 }
 
 // A write addressed to the device, with a code.
-fn addressed_answer(n: u8, u: Unpaged, s: &[u8]) -> u8
+fn addressed_form(s: &[u8]) -> u8
     requires { ⌜ 2 ≤ length (now s) ⌝ }
-    ensures { λ r. ⌜ r ≡ addressedAnswer n u (now (s .entry)) ⌝ }
+    ensures { λ r. ⌜ ((n : ℕ) (u : UnpagedRecord) → byForm r (dataAnswer n u (getD (now (s .entry)) 1 0) (asked (now (s .entry)))) ≡ addressedAnswer n u (now (s .entry))) ⌝ }
 {
     let code = bytes::byte_at(s, 1);
     let e = command::lookup(code);
-    let w = asked::asked(s);
-    code_answer(n, u, s, e, code, w)
+    code_form(s, e)
 }
 
-pub fn write_answer(n: u8, u: Unpaged, s: &[u8]) -> u8
-    ensures { λ r. ⌜ r ≡ writeAnswer n u (now (s .entry)) ⌝ }
+fn form_answer(s: &[u8]) -> u8
+    ensures { λ r. ⌜ ((n : ℕ) (u : UnpagedRecord) → byForm r (dataAnswer n u (getD (now (s .entry)) 1 0) (asked (now (s .entry)))) ≡ writeAnswer n u (now (s .entry))) ⌝ }
 {
     if s.len() == 0 {
         return answer::MALFORMED;
@@ -103,5 +106,38 @@ pub fn write_answer(n: u8, u: Unpaged, s: &[u8]) -> u8
     if s.len() == 1 {
         return answer::MALFORMED;
     }
-    addressed_answer(n, u, s)
+    addressed_form(s)
+}
+
+// The answer of a write, and what it asks for where it is accepted.
+pub struct Judged {
+    pub answer: u8,
+    pub write: Write,
+}
+
+// What a write asks for is told once, and only where its form is right.
+pub fn judge(n: u8, u: Unpaged, s: &[u8]) -> Judged
+    ensures { λ r. ⌜ (r .answer ≡ writeAnswer n u (now (s .entry))) × (r .answer ≡ 0 → r .write ≡ asked (now (s .entry))) ⌝ }
+{
+    let form = form_answer(s);
+    if form != answer::DONE {
+        return Judged {
+            answer: form,
+            write: Write::Nothing,
+        };
+    }
+    let code = bytes::byte_at(s, 1);
+    let w = asked::asked(s);
+    let a = data_answer(n, u, code, w);
+    Judged {
+        answer: a,
+        write: w,
+    }
+}
+
+pub fn write_answer(n: u8, u: Unpaged, s: &[u8]) -> u8
+    ensures { λ r. ⌜ r ≡ writeAnswer n u (now (s .entry)) ⌝ }
+{
+    let j = judge(n, u, s);
+    j.answer
 }

@@ -2,31 +2,55 @@
 // caller sets it.
 ghost use mathlib.Core.Path.{_≡_};
 ghost use Rattle.laws.specs.Bits.{without};
+ghost use Rattle.page.specs.Causes.{settled};
+ghost use Rattle.page.specs.Settings.{setOperation, setVoutCommand, setLimit, setResponse};
 ghost use Rattle.unpaged.specs.Unpaged.{withPage, withProtect, withCml};
-ghost use Rattle.writes.specs.Left.{applied, changed, cleared, pageLeft, unpagedLeft, clearing};
+ghost use Rattle.writes.specs.Left.{changed, cleared, pageLeft, unpagedLeft, clearing};
 use super::asked::Masks;
 use super::asked::Setting;
 use super::asked::Write;
 use page::Page;
 use unpaged::Unpaged;
 
-fn applied(p: Page, s: Setting) -> Page
-    ensures { λ r. ⌜ r ≡ applied s p ⌝ }
+// A page with one setting changed is brought up to date, in a function for each setting.
+fn operated(p: Page, x: u8) -> Page
+    ensures { λ r. ⌜ r ≡ settled (setOperation p x) ⌝ }
 {
-    match s {
-        Setting::Operation(x) => page::settings::set_operation(p, x),
-        Setting::VoutCommand(word) => page::settings::set_vout_command(p, word),
-        Setting::Limit(k, word) => page::settings::set_limit(p, k, word),
-        Setting::Response(k, x) => page::settings::set_response(p, k, x),
-    }
+    let q = page::settings::set_operation(p, x);
+    page::causes::settled(q)
 }
 
-// A page with one setting changed, brought up to date.
+fn commanded(p: Page, word: u16) -> Page
+    ensures { λ r. ⌜ r ≡ settled (setVoutCommand p word) ⌝ }
+{
+    let q = page::settings::set_vout_command(p, word);
+    page::causes::settled(q)
+}
+
+fn limited(p: Page, k: u8, word: u16) -> Page
+    ensures { λ r. ⌜ r ≡ settled (setLimit p k word) ⌝ }
+{
+    let q = page::settings::set_limit(p, k, word);
+    page::causes::settled(q)
+}
+
+fn responded(p: Page, k: u8, x: u8) -> Page
+    ensures { λ r. ⌜ r ≡ settled (setResponse p k x) ⌝ }
+{
+    let q = page::settings::set_response(p, k, x);
+    page::causes::settled(q)
+}
+
+// The settings do not meet before the page is settled: where they do, LLVM moves the page from place to place in parts that overlap.
 fn changed(p: Page, s: Setting) -> Page
     ensures { λ r. ⌜ r ≡ changed s p ⌝ }
 {
-    let q = applied(p, s);
-    page::causes::settled(q)
+    match s {
+        Setting::Operation(x) => operated(p, x),
+        Setting::VoutCommand(word) => commanded(p, word),
+        Setting::Limit(k, word) => limited(p, k, word),
+        Setting::Response(k, x) => responded(p, k, x),
+    }
 }
 
 // A page with bits cleared, brought up to date: the bits of present causes are set again.

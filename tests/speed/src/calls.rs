@@ -66,11 +66,11 @@ fn batch<'a, S>(
 fn device_calls(
     name: &str,
     wanted: u8,
+    start: Device,
     mut ours: impl FnMut(&mut library::Device, &mut Reply, usize) -> u8,
     mut value: impl FnMut(&mut Device, &mut Reply, usize) -> u8,
     mut place: impl FnMut(&mut Device, &mut Reply, usize) -> u8,
 ) {
-    let start = supplying();
     let (mut a, mut b, mut c) = (mirror::from_reference(&start), start, start);
     for input in 0..4 * INPUTS {
         let input = input % INPUTS;
@@ -93,8 +93,13 @@ fn device_calls(
     print_row(name, &times);
 }
 
-/// A device as it stands in use: every page on and measured, within its limits.
-fn supplying() -> Device {
+/// PAGE of the device in use.
+pub const ONE_PAGE: u8 = 3;
+/// PAGE that selects every page.
+pub const EVERY_PAGE: u8 = 0xFF;
+
+/// A device as it stands in use: every page on and measured, within its limits; then PAGE is written.
+fn supplying(selected: u8) -> Device {
     let mut device = Device::power_on();
     for page in 0..8 {
         device.write(&[WRITE_ADDRESS, 0x00, page]);
@@ -103,13 +108,13 @@ fn supplying() -> Device {
             device.measure(page, quantity as u8, word);
         }
     }
-    device.write(&[WRITE_ADDRESS, 0x00, 3]);
+    device.write(&[WRITE_ADDRESS, 0x00, selected]);
     assert!(device.pages.iter().all(|page| page.supplies()) && !device.alert);
     device
 }
 
-/// A write of a limit with PEC, accepted; and the same with a wrong PEC, refused with answer 7.
-pub fn write(name: &str, wanted: u8) {
+/// A write of a limit with PEC, accepted; and the same with a wrong PEC, refused with answer 7. On the selected page, or on each.
+pub fn write(name: &str, wanted: u8, selected: u8) {
     const LIMITS: [(u8, u16); 6] = [
         (0x40, 0x2A3D),
         (0x46, 0xD280),
@@ -132,6 +137,7 @@ pub fn write(name: &str, wanted: u8) {
     device_calls(
         name,
         wanted,
+        supplying(selected),
         |device, _, input| {
             let done = library::write(*device, &inputs[input]);
             *device = done.device;
@@ -156,6 +162,7 @@ pub fn read(name: &str, code: u8, data: usize) {
     device_calls(
         name,
         0,
+        supplying(ONE_PAGE),
         |device, reply, _| {
             let done = library::read(*device, header, &mut reply[..n]);
             *device = done.device;
@@ -188,6 +195,7 @@ pub fn measure(name: &str) {
     device_calls(
         name,
         0,
+        supplying(ONE_PAGE),
         |device, _, input| {
             let (page, quantity, word) = inputs[input];
             let done = library::measure(*device, page, quantity, word);
@@ -215,6 +223,7 @@ pub fn sample(name: &str) {
     device_calls(
         name,
         0,
+        supplying(ONE_PAGE),
         |device, _, input| {
             let done = library::sample(*device, inputs[input]);
             *device = done.device;
@@ -237,6 +246,7 @@ pub fn alert_response(name: &str) {
     device_calls(
         name,
         0,
+        supplying(ONE_PAGE),
         |device, reply, _| {
             device.unpaged.alert = true;
             let done = library::alert_response(*device, &mut reply[..n]);

@@ -14,8 +14,9 @@ fn main() {
     calls::pec_of("PEC, 4 KiB", 4096, 4);
     println!();
     race::print_head(&["Rust by value", "Rust by `&mut`"]);
-    calls::write("write, limit with PEC, accepted", 0);
-    calls::write("write, limit with wrong PEC, refused", 7);
+    calls::write("write, limit with PEC, accepted", 0, calls::ONE_PAGE);
+    calls::write("the same with PAGE FFh", 0, calls::EVERY_PAGE);
+    calls::write("write, limit with wrong PEC, refused", 7, calls::ONE_PAGE);
     calls::read("read, STATUS_WORD", 0x79, 2);
     calls::read("read, READ_EIN", 0x86, 7);
     calls::measure("measure");
