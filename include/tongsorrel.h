@@ -11,7 +11,7 @@
  * The functions keep nothing between calls and share nothing, so they may run in any number of threads and in signal handlers.
  *
  * Stack: a call takes at most TONGSORREL_STACK bytes from its return address down. The caller's own copies come on top: a device handed over
- * has 332 bytes, a result 336. tests/stack.c measures it on a painted stack, over every code, length and answer, and fails if it is more. */
+ * has 412 bytes, a result 416. tests/stack.c measures it on a painted stack, over every code, length and answer, and fails if it is more. */
 #ifndef TONGSORREL_H
 #define TONGSORREL_H
 
@@ -68,14 +68,19 @@ enum {
     TONGSORREL_CODE_VOUT_COMMAND = 0x21,
     TONGSORREL_CODE_VOUT_OV_FAULT_LIMIT = 0x40,
     TONGSORREL_CODE_VOUT_OV_FAULT_RESPONSE = 0x41,
+    TONGSORREL_CODE_VOUT_OV_WARN_LIMIT = 0x42,
     TONGSORREL_CODE_IOUT_OC_FAULT_LIMIT = 0x46,
     TONGSORREL_CODE_IOUT_OC_FAULT_RESPONSE = 0x47,
+    TONGSORREL_CODE_IOUT_OC_WARN_LIMIT = 0x4A,
     TONGSORREL_CODE_OT_FAULT_LIMIT = 0x4F,
     TONGSORREL_CODE_OT_FAULT_RESPONSE = 0x50,
+    TONGSORREL_CODE_OT_WARN_LIMIT = 0x51,
     TONGSORREL_CODE_UT_FAULT_LIMIT = 0x53,
     TONGSORREL_CODE_UT_FAULT_RESPONSE = 0x54,
     TONGSORREL_CODE_VIN_OV_FAULT_LIMIT = 0x55,
     TONGSORREL_CODE_VIN_OV_FAULT_RESPONSE = 0x56,
+    TONGSORREL_CODE_VIN_OV_WARN_LIMIT = 0x57,
+    TONGSORREL_CODE_VIN_UV_WARN_LIMIT = 0x58,
     TONGSORREL_CODE_VIN_UV_FAULT_LIMIT = 0x59,
     TONGSORREL_CODE_VIN_UV_FAULT_RESPONSE = 0x5A,
     TONGSORREL_CODE_STATUS_BYTE = 0x78,
@@ -102,7 +107,7 @@ enum {
     TONGSORREL_QUANTITIES = 4,
 };
 
-/* Causes (6.1): the places in limits and responses. */
+/* Causes (6.1): the places in responses, and the first in limits. */
 enum {
     TONGSORREL_VOUT_OV = 0,
     TONGSORREL_IOUT_OC = 1,
@@ -111,6 +116,16 @@ enum {
     TONGSORREL_VIN_OV = 4,
     TONGSORREL_VIN_UV = 5,
     TONGSORREL_CAUSES = 6,
+};
+
+/* Warnings (6.14): the places in limits behind those of the causes. */
+enum {
+    TONGSORREL_VOUT_OV_WARN = 6,
+    TONGSORREL_IOUT_OC_WARN = 7,
+    TONGSORREL_OT_WARN = 8,
+    TONGSORREL_VIN_OV_WARN = 9,
+    TONGSORREL_VIN_UV_WARN = 10,
+    TONGSORREL_LIMITS = 11,
 };
 
 enum { TONGSORREL_PAGES = 8 };
@@ -157,11 +172,11 @@ typedef struct tongsorrel_unpaged {
     tongsorrel_account energy;
 } tongsorrel_unpaged;
 
-/* One supply. limits and responses by cause; words (the latest, where measured says so), measured and status by quantity. */
+/* One supply. limits by cause and warning, responses by cause; words (the latest, where measured says so), measured and status by quantity. */
 typedef struct tongsorrel_page {
     uint8_t operation;
     uint16_t vout_command;
-    uint16_t limits[TONGSORREL_CAUSES];
+    uint16_t limits[TONGSORREL_LIMITS];
     uint8_t responses[TONGSORREL_CAUSES];
     uint16_t words[TONGSORREL_QUANTITIES];
     bool measured[TONGSORREL_QUANTITIES];
@@ -289,21 +304,21 @@ TONGSORREL_AT(tongsorrel_unpaged, protect, 1);
 TONGSORREL_AT(tongsorrel_unpaged, cml, 2);
 TONGSORREL_AT(tongsorrel_unpaged, alert, 3);
 TONGSORREL_AT(tongsorrel_unpaged, energy, 4);
-TONGSORREL_SIZE(tongsorrel_page, 40);
+TONGSORREL_SIZE(tongsorrel_page, 50);
 TONGSORREL_AT(tongsorrel_page, operation, 0);
 TONGSORREL_AT(tongsorrel_page, vout_command, 2);
 TONGSORREL_AT(tongsorrel_page, limits, 4);
-TONGSORREL_AT(tongsorrel_page, responses, 16);
-TONGSORREL_AT(tongsorrel_page, words, 22);
-TONGSORREL_AT(tongsorrel_page, measured, 30);
-TONGSORREL_AT(tongsorrel_page, status, 34);
-TONGSORREL_AT(tongsorrel_page, tripped, 38);
-TONGSORREL_SIZE(tongsorrel_device, 332);
+TONGSORREL_AT(tongsorrel_page, responses, 26);
+TONGSORREL_AT(tongsorrel_page, words, 32);
+TONGSORREL_AT(tongsorrel_page, measured, 40);
+TONGSORREL_AT(tongsorrel_page, status, 44);
+TONGSORREL_AT(tongsorrel_page, tripped, 48);
+TONGSORREL_SIZE(tongsorrel_device, 412);
 TONGSORREL_AT(tongsorrel_device, unpaged, 0);
 TONGSORREL_AT(tongsorrel_device, pages, 12);
-TONGSORREL_SIZE(tongsorrel_done, 336);
+TONGSORREL_SIZE(tongsorrel_done, 416);
 TONGSORREL_AT(tongsorrel_done, device, 0);
-TONGSORREL_AT(tongsorrel_done, answer, 332);
+TONGSORREL_AT(tongsorrel_done, answer, 412);
 TONGSORREL_SIZE(tongsorrel_outcome, 16);
 TONGSORREL_AT(tongsorrel_outcome, unpaged, 0);
 TONGSORREL_AT(tongsorrel_outcome, answer, 12);

@@ -23,8 +23,8 @@ typedef struct row {
 static const row rows[] = {
     {"04e803", "00"},
     {"0300003e2a", "00"},
-    {"0201c07ac1", "0080"},
-    {"0201c078c1", "0060"},
+    {"0201c07ac1", "00c0"},
+    {"0201c078c1", "0061"},
     {"0501", "00c0"},
     {"0501", "0eff"},
     {"01c003", "00"},
@@ -84,10 +84,10 @@ static void state(const tongsorrel_device *device) {
     expect(unpaged->page == 0 && unpaged->protect == 0 && unpaged->cml == 0 && !unpaged->alert, "PAGE, WRITE_PROTECT, CML and the alert");
     expect(unpaged->energy.accumulator == 1000 && unpaged->energy.rollover == 0 && unpaged->energy.count == 1, "the account");
     expect(page->operation == 0 && page->vout_command == 0x2666, "OPERATION and VOUT_COMMAND");
-    expect(page->limits[0] == 0x2A3D && page->limits[5] == 0xC3F5, "the limits");
+    expect(page->limits[0] == 0x2A3D && page->limits[TONGSORREL_VIN_UV] == 0xC3F5, "the limits");
     expect(page->responses[0] == 0x80 && page->responses[1] == 0xC0 && page->responses[5] == 0x80, "the responses");
     expect(page->measured[0] && page->words[0] == 0x2A3E && !page->measured[3], "the measurement");
-    expect(page->status[0] == 0x80 && page->status[3] == 0 && page->tripped, "the status and the trip");
+    expect(page->status[0] == 0xC0 && page->status[3] == 0 && page->tripped, "the status and the trip");
     expect(device->pages[7].limits[0] == 0x2A3D && device->pages[7].status[0] == 0 && !device->pages[7].tripped, "another page");
 }
 
@@ -103,7 +103,7 @@ static tongsorrel_device written(tongsorrel_device device, uint8_t code, uint8_t
 static void clearings(tongsorrel_device device) {
     device = written(device, TONGSORREL_CODE_WRITE_PROTECT, 0x80);
     device = written(device, TONGSORREL_CODE_STATUS_VOUT, 0xFF);
-    expect(device.pages[0].status[0] == 0x80 && device.unpaged.alert, "a present cause has its bit and raises the alert");
+    expect(device.pages[0].status[0] == 0xC0 && device.unpaged.alert, "a present cause has its bit and raises the alert");
     device = tongsorrel_measure(device, 0, TONGSORREL_VOUT, 0).device;
     device = written(device, TONGSORREL_CODE_STATUS_VOUT, 0x7F);
     expect(device.pages[0].status[0] == 0x80 && device.unpaged.alert, "zeros spare");

@@ -45,8 +45,8 @@ fn frames() {
     let rows = [
         ("04e803", Call::Sample(1000), "00"),
         ("0300003e2a", Call::Measure(0, 0, 0x2A3E), "00"),
-        ("0201c07ac1", read(0x7A, 1), "0080"),
-        ("0201c078c1", read(0x78, 1), "0060"),
+        ("0201c07ac1", read(0x7A, 1), "00c0"),
+        ("0201c078c1", read(0x78, 1), "0061"),
         ("0501", Call::AlertResponse(1), "00c0"),
         ("0501", Call::AlertResponse(1), "0eff"),
         ("01c003", Call::Write(vec![0xC0, 0x03]), "00"),

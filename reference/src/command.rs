@@ -1,4 +1,4 @@
-//! The thirty-two command codes (data sheet 3.1). The status registers 7A to 7E are
+//! The thirty-seven command codes (data sheet 3.1). The status registers 7A to 7E are
 //! written too: ones clear.
 
 use Access::{Read, ReadWrite, Write};
@@ -39,7 +39,7 @@ const fn row(code: u8, access: Access, data: usize) -> Command {
     Command { code, access, data }
 }
 
-pub const TABLE: [Command; 32] = [
+pub const TABLE: [Command; 37] = [
     row(0x00, ReadWrite, 1), // PAGE
     row(0x01, ReadWrite, 1), // OPERATION
     row(0x03, Write, 0),     // CLEAR_FAULTS, acts on CML as well
@@ -49,14 +49,19 @@ pub const TABLE: [Command; 32] = [
     row(0x21, ReadWrite, 2), // VOUT_COMMAND
     row(0x40, ReadWrite, 2), // VOUT_OV limit
     row(0x41, ReadWrite, 1), // VOUT_OV response
+    row(0x42, ReadWrite, 2), // VOUT_OV warning limit
     row(0x46, ReadWrite, 2), // IOUT_OC limit
     row(0x47, ReadWrite, 1), // IOUT_OC response
+    row(0x4A, ReadWrite, 2), // IOUT_OC warning limit
     row(0x4F, ReadWrite, 2), // OT limit
     row(0x50, ReadWrite, 1), // OT response
+    row(0x51, ReadWrite, 2), // OT warning limit
     row(0x53, ReadWrite, 2), // UT limit
     row(0x54, ReadWrite, 1), // UT response
     row(0x55, ReadWrite, 2), // VIN_OV limit
     row(0x56, ReadWrite, 1), // VIN_OV response
+    row(0x57, ReadWrite, 2), // VIN_OV warning limit
+    row(0x58, ReadWrite, 2), // VIN_UV warning limit
     row(0x59, ReadWrite, 2), // VIN_UV limit
     row(0x5A, ReadWrite, 1), // VIN_UV response
     row(0x78, Read, 1),      // STATUS_BYTE

@@ -18,29 +18,41 @@ pub const UT: usize = 3;
 pub const VIN_OV: usize = 4;
 pub const VIN_UV: usize = 5;
 
-/// What makes a cause present and which bit it sets.
-struct Cause {
+/// A limit that a quantity is held against: where it is written, what makes its
+/// cause or warning present and which bit that sets.
+struct Watch {
+    limit: u8,
     quantity: usize,
     /// The side of the limit on which the measurement must strictly lie.
     side: Ordering,
     bit: u8,
 }
 
-const fn cause(quantity: usize, side: Ordering, bit: u8) -> Cause {
-    Cause {
+const fn watch(limit: u8, quantity: usize, side: Ordering, bit: u8) -> Watch {
+    Watch {
+        limit,
         quantity,
         side,
         bit,
     }
 }
 
-const CAUSES: [Cause; 6] = [
-    cause(VOUT, Ordering::Greater, 0x80),
-    cause(IOUT, Ordering::Greater, 0x80),
-    cause(TEMPERATURE, Ordering::Greater, 0x80),
-    cause(TEMPERATURE, Ordering::Less, 0x10),
-    cause(VIN, Ordering::Greater, 0x80),
-    cause(VIN, Ordering::Less, 0x10),
+const CAUSES: [Watch; 6] = [
+    watch(0x40, VOUT, Ordering::Greater, 0x80),
+    watch(0x46, IOUT, Ordering::Greater, 0x80),
+    watch(0x4F, TEMPERATURE, Ordering::Greater, 0x80),
+    watch(0x53, TEMPERATURE, Ordering::Less, 0x10),
+    watch(0x55, VIN, Ordering::Greater, 0x80),
+    watch(0x59, VIN, Ordering::Less, 0x10),
+];
+
+/// Warnings: they set their bits like causes but have no response.
+const WARNINGS: [Watch; 5] = [
+    watch(0x42, VOUT, Ordering::Greater, 0x40),
+    watch(0x4A, IOUT, Ordering::Greater, 0x20),
+    watch(0x51, TEMPERATURE, Ordering::Greater, 0x40),
+    watch(0x57, VIN, Ordering::Greater, 0x40),
+    watch(0x58, VIN, Ordering::Less, 0x20),
 ];
 
 /// What a response byte asks for.
@@ -66,15 +78,12 @@ fn action(cause: usize, response: u8) -> Option<Action> {
 
 /// The cause whose limit is at `code`.
 fn limit_of(code: u8) -> Option<usize> {
-    match code {
-        0x40 => Some(VOUT_OV),
-        0x46 => Some(IOUT_OC),
-        0x4F => Some(OT),
-        0x53 => Some(UT),
-        0x55 => Some(VIN_OV),
-        0x59 => Some(VIN_UV),
-        _ => None,
-    }
+    CAUSES.iter().position(|cause| cause.limit == code)
+}
+
+/// The warning whose limit is at `code`.
+fn warn_limit_of(code: u8) -> Option<usize> {
+    WARNINGS.iter().position(|warning| warning.limit == code)
 }
 
 /// The cause whose response is at `code`.
@@ -111,6 +120,8 @@ pub struct Page {
     pub limits: [u16; 6],
     /// By cause, as the limits.
     pub responses: [u8; 6],
+    /// By warning: VOUT_OV, IOUT_OC, OT, VIN_OV, VIN_UV.
+    pub warn_limits: [u16; 5],
     /// By quantity: STATUS_VOUT, STATUS_IOUT, STATUS_INPUT, STATUS_TEMPERATURE.
     pub status: [u8; 4],
     pub tripped: bool,
@@ -125,6 +136,7 @@ impl Page {
             vout_command: 0x2666,
             limits: [0x2A3D, 0xD280, 0xEB70, 0xEEC0, 0xD3FF, 0xC3F5],
             responses: [0x80, 0xC0, 0x80, 0x80, 0x80, 0x80],
+            warn_limits: [0x2A3D, 0xD280, 0xEB70, 0xD3FF, 0xC3F5],
             status: [0; 4],
             tripped: false,
             readings: [Reading::default(); 4],
@@ -139,14 +151,22 @@ impl Page {
 
     /// Whether a cause is present (data sheet 6.2).
     pub fn present(&self, cause: usize) -> bool {
-        let Cause { quantity, side, .. } = CAUSES[cause];
-        let reading = self.readings[quantity];
-        let limit = self.limits[cause];
-        let place = match quantity {
+        self.past(&CAUSES[cause], self.limits[cause])
+    }
+
+    /// Whether a warning is present: as a cause, by its own limit.
+    pub fn warned(&self, warning: usize) -> bool {
+        self.past(&WARNINGS[warning], self.warn_limits[warning])
+    }
+
+    /// Whether the latest measurement lies strictly past a limit.
+    fn past(&self, watch: &Watch, limit: u16) -> bool {
+        let reading = self.readings[watch.quantity];
+        let place = match watch.quantity {
             VOUT => linear11::order_vout(reading.word, limit),
             _ => linear11::order(reading.word, limit),
         };
-        reading.measured && place == side
+        reading.measured && place == watch.side
     }
 
     /// Whether some present cause has a response of this action.
@@ -161,13 +181,18 @@ impl Page {
         self.operation == 0x80 && !self.tripped && !self.has(Action::OffWhileFaultLasts)
     }
 
-    /// Sets the bits of the present causes and trips the page where one of them
-    /// has the response "shut down, stay off". Tells whether a bit rose.
+    /// Sets the bits of the present causes and warnings and trips the page where a
+    /// cause has the response "shut down, stay off". Tells whether a bit rose.
     pub(crate) fn bring_up_to_date(&mut self) -> bool {
         let before = self.status;
         for (index, cause) in CAUSES.iter().enumerate() {
             if self.present(index) {
                 self.status[cause.quantity] |= cause.bit;
+            }
+        }
+        for (index, warning) in WARNINGS.iter().enumerate() {
+            if self.warned(index) {
+                self.status[warning.quantity] |= warning.bit;
             }
         }
         if self.has(Action::ShutDown) {
@@ -198,10 +223,11 @@ impl Page {
             0x8B => two(self.latest(VOUT)),
             0x8C => two(self.latest(IOUT)),
             0x8D => two(self.latest(TEMPERATURE)),
-            _ => match (limit_of(code), response_of(code)) {
-                (Some(cause), _) => two(self.limits[cause]),
-                (_, Some(cause)) => one(self.responses[cause]),
-                (None, None) => unreachable!("code {code:02x} is not read"),
+            _ => match (limit_of(code), warn_limit_of(code), response_of(code)) {
+                (Some(cause), _, _) => two(self.limits[cause]),
+                (_, Some(warning), _) => two(self.warn_limits[warning]),
+                (_, _, Some(cause)) => one(self.responses[cause]),
+                (None, None, None) => unreachable!("code {code:02x} is not read"),
             },
         }
     }
@@ -238,6 +264,8 @@ impl Page {
             self.status[usize::from(code - 0x7A)] &= !data[0];
         } else if let Some(cause) = limit_of(code) {
             self.limits[cause] = word(data);
+        } else if let Some(warning) = warn_limit_of(code) {
+            self.warn_limits[warning] = word(data);
         } else if let Some(cause) = response_of(code) {
             self.responses[cause] = data[0];
         } else if code == 0x21 {

@@ -103,10 +103,10 @@ fn clear_faults_clears_every_page_and_cml() {
     assert_eq!(write(&mut device, &[0x03]), 0);
     for page in &device.pages {
         let due = [
-            u8::from(page.present(0)) << 7,
-            u8::from(page.present(1)) << 7,
+            u8::from(page.present(0)) << 7 | u8::from(page.warned(0)) << 6,
+            u8::from(page.present(1)) << 7 | u8::from(page.warned(1)) << 5,
             0x00,
-            u8::from(page.present(2)) << 7,
+            u8::from(page.present(2)) << 7 | u8::from(page.warned(2)) << 6,
         ];
         assert_eq!(page.status, due);
     }

@@ -74,7 +74,7 @@ fn vout_limit_is_strict() {
     assert_eq!(device.pages[0].status[0], 0x00);
     assert_eq!(device.measure(0, 0, 0x2A3E), 0);
     assert!(device.pages[0].present(0));
-    assert_eq!(device.pages[0].status[0], 0x80);
+    assert_eq!(device.pages[0].status[0], 0xC0); // and the warning
 }
 
 #[test]

@@ -98,10 +98,10 @@ fn a_present_cause_sets_its_bit_again() {
     state.measure(0, 0, 0xFFFF);
     state.pages[0].status[0] = 0xFF;
     assert_eq!(write(&mut state, &[0x7A, 0xFF]), 0);
-    assert_eq!(state.pages[0].status[0], 0x80);
+    assert_eq!(state.pages[0].status[0], 0xC0);
     assert!(state.alert && state.pages[0].tripped);
     state.measure(0, 0, 0x0000);
-    assert_eq!(write(&mut state, &[0x7A, 0x80]), 0);
+    assert_eq!(write(&mut state, &[0x7A, 0xC0]), 0);
     assert_eq!(state.pages[0].status[0], 0x00);
     // The trip stays.
     assert!(!state.alert && state.pages[0].tripped);
@@ -118,6 +118,7 @@ fn the_alert_follows_the_bits_after_every_such_write() {
     assert!(state.alert);
     write(&mut state, &[0x00, 0x03]);
     assert_eq!(write(&mut state, &[0x7A, 0x7F]), 0);
+    assert_eq!(state.pages[3].status[0], 0x80);
     assert!(state.alert);
     assert_eq!(write(&mut state, &[0x7A, 0x80]), 0);
     assert!(!state.alert);

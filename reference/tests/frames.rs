@@ -13,7 +13,7 @@ fn run(input: &[u8]) -> String {
 fn example_of_the_data_sheet() {
     let input =
         "04e803\n0300003e2a\n0201c07ac1\n0201c078c1\n0501\n0501\n01c003\n0501\n0207c086c1\n";
-    let output = "00\n00\n0080\n0060\n00c0\n0eff\n00\n00c0\n0006e80300010000\n";
+    let output = "00\n00\n00c0\n0061\n00c0\n0eff\n00\n00c0\n0006e80300010000\n";
     assert_eq!(run(input.as_bytes()), output);
 }
 
@@ -132,5 +132,5 @@ fn blocks_of_any_size() {
     let mut output = Vec::new();
     frame::run(&mut Slow(input, false), &mut output).unwrap();
     assert_eq!(output, run(input).into_bytes());
-    assert_eq!(output, b"00\n00\nff\nff\n006088\n00c0\n");
+    assert_eq!(output, b"00\n00\nff\nff\n006188\n00c0\n");
 }

@@ -36,6 +36,7 @@ impl Random {
         page.operation = self.pick(&[0x00, 0x40, 0x80]);
         page.vout_command = self.word();
         page.limits = [0; 6].map(|_: u16| self.word());
+        page.warn_limits = [0; 5].map(|_: u16| self.word());
         page.responses = [0; 6].map(|_: u8| self.pick(&[0x00, 0x80, 0xC0]));
         page.responses[1] = self.pick(&[0x00, 0xC0]);
         page.status = [0; 4].map(|_: u8| self.pick(&[0x00, 0x90, 0xFF]));

@@ -115,5 +115,5 @@ fn a_measurement_keeps_the_selected_page() {
     assert_eq!(byte(&mut device, 0x00), 2);
     assert_eq!(byte(&mut device, 0x7A), 0);
     write(&mut device, &[0x00, 0x05]);
-    assert_eq!(byte(&mut device, 0x7A), 0x80);
+    assert_eq!(byte(&mut device, 0x7A), 0xC0);
 }

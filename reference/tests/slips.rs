@@ -36,7 +36,7 @@ fn y_is_signed_and_values_are_compared() {
     assert_eq!(byte(&mut device, 0x7B), 0x00);
     // 11 A as 0Bh is, though its word is below.
     device.measure(0, 1, 0x000B);
-    assert_eq!(byte(&mut device, 0x7B), 0x80);
+    assert_eq!(byte(&mut device, 0x7B), 0xA0);
     // -41 degrees is an undertemperature.
     device.measure(0, 3, 0x07D7);
     assert_eq!(byte(&mut device, 0x7D), 0x10);
@@ -46,7 +46,7 @@ fn y_is_signed_and_values_are_compared() {
 fn vout_is_unsigned() {
     let mut device = Device::power_on();
     device.measure(0, 0, 0x8000);
-    assert_eq!(byte(&mut device, 0x7A), 0x80);
+    assert_eq!(byte(&mut device, 0x7A), 0xC0);
 }
 
 #[test]

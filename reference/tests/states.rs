@@ -65,6 +65,7 @@ fn every_other_field_may_hold_anything() {
             operation: 0x40,
             vout_command: 0xFFFF,
             limits: [0xFFFF; 6],
+            warn_limits: [0xFFFF; 5],
             responses: [0xC0; 6],
             status: [0xFF; 4],
             tripped: true,
@@ -96,7 +97,7 @@ fn behind() -> Device {
 fn touched(state: &Device) -> Vec<usize> {
     let done = |&index: &usize| {
         let page = &state.pages[index];
-        assert_eq!(page.tripped, page.status[0] == 0x80);
+        assert_eq!(page.tripped, page.status[0] == 0xC0);
         page.tripped
     };
     (0..8).filter(done).collect()
@@ -159,7 +160,7 @@ fn value(quantity: usize, word: u16) -> f64 {
     mantissa * 2f64.powi(i32::from(word as i16 >> 11))
 }
 
-/// The bits of the present causes and whether one of them trips.
+/// The bits of the present causes and warnings, and whether a cause trips.
 fn due(page: &Page) -> ([u8; 4], bool) {
     let causes = [
         (0, true, 0x80, 0x80),
@@ -170,6 +171,26 @@ fn due(page: &Page) -> ([u8; 4], bool) {
         (2, false, 0x10, 0x80),
     ];
     let (mut bits, mut trip) = ([0; 4], false);
+    let warnings = [
+        (0, true, 0x40),
+        (1, true, 0x20),
+        (3, true, 0x40),
+        (2, true, 0x40),
+        (2, false, 0x20),
+    ];
+    for (index, (quantity, above, bit)) in warnings.into_iter().enumerate() {
+        let reading = page.readings[quantity];
+        let measured = value(quantity, reading.word);
+        let limit = value(quantity, page.warn_limits[index]);
+        let past = if above {
+            measured > limit
+        } else {
+            measured < limit
+        };
+        if reading.measured && past {
+            bits[quantity] |= bit;
+        }
+    }
     for (index, (quantity, above, bit, shut_down)) in causes.into_iter().enumerate() {
         let reading = page.readings[quantity];
         let measured = value(quantity, reading.word);

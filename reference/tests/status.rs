@@ -18,6 +18,11 @@ fn power_on_values() {
             (0x53, 0xEEC0),
             (0x55, 0xD3FF),
             (0x59, 0xC3F5),
+            (0x42, 0x2A3D),
+            (0x4A, 0xD280),
+            (0x51, 0xEB70),
+            (0x57, 0xD3FF),
+            (0x58, 0xC3F5),
             (0x79, 0x0840),
             (0x88, 0),
             (0x8B, 0),
@@ -41,13 +46,14 @@ fn power_on_values() {
     assert!(!device.alert);
 }
 
-/// Quantity, a word at the limit, a word just past it, status code and bit.
+/// Quantity, a word at the limit, a word just past it, status code and bits: that of
+/// the cause and, the limits being equal at power-on, that of the warning.
 const EDGES: [(u8, u16, u16, u8, u8); 6] = [
-    (0, 0x2A3D, 0x2A3E, 0x7A, 0x80), // VOUT_OV
-    (1, 0xD280, 0xD281, 0x7B, 0x80), // IOUT_OC
-    (2, 0xD3FF, 0xDA00, 0x7C, 0x80), // VIN_OV: 1023/64, then 512/32
-    (2, 0xC3F5, 0xC3F4, 0x7C, 0x10), // VIN_UV
-    (3, 0xEB70, 0xEB71, 0x7D, 0x80), // OT
+    (0, 0x2A3D, 0x2A3E, 0x7A, 0xC0), // VOUT_OV
+    (1, 0xD280, 0xD281, 0x7B, 0xA0), // IOUT_OC
+    (2, 0xD3FF, 0xDA00, 0x7C, 0xC0), // VIN_OV: 1023/64, then 512/32
+    (2, 0xC3F5, 0xC3F4, 0x7C, 0x30), // VIN_UV
+    (3, 0xEB70, 0xEB71, 0x7D, 0xC0), // OT
     (3, 0xEEC0, 0xEEBF, 0x7D, 0x10), // UT
 ];
 
@@ -73,10 +79,10 @@ fn each_cause_is_strict_and_sets_its_bit() {
 fn no_cause_before_a_measurement() {
     let mut device = Device::power_on();
     // Limits that 0000h would break: OC below 0, UT and VIN_UV above 0.
-    for code in [0x46, 0x4F, 0x55] {
+    for code in [0x46, 0x4F, 0x55, 0x4A, 0x51, 0x57] {
         assert_eq!(write(&mut device, &[code, 0xFF, 0xFF]), 0);
     }
-    for code in [0x53, 0x59] {
+    for code in [0x53, 0x59, 0x58] {
         assert_eq!(write(&mut device, &[code, 0x01, 0x00]), 0);
     }
     assert_eq!(device.pages[0].status, [0; 4]);
@@ -123,13 +129,13 @@ fn a_bit_falls_by_clear_faults() {
     device.measure(0, 0, 0x0000);
     for data in [0x00, 0x80, 0x40, 0x80] {
         write(&mut device, &[0x01, data]);
-        assert_eq!(byte(&mut device, 0x7A), 0x80);
+        assert_eq!(byte(&mut device, 0x7A), 0xC0);
     }
     assert_eq!(write(&mut device, &[0x78, 0x80]), 3);
-    assert_eq!(byte(&mut device, 0x7A), 0x80);
+    assert_eq!(byte(&mut device, 0x7A), 0xC0);
     assert_eq!(write(&mut device, &[0x03, 0x00]), 7);
     assert_eq!(write(&mut device, &[0x03, 0x00, 0x00]), 6);
-    assert_eq!(byte(&mut device, 0x7A), 0x80);
+    assert_eq!(byte(&mut device, 0x7A), 0xC0);
     assert_eq!(byte(&mut device, 0x7E), 0xE0);
     assert_eq!(write(&mut device, &[0x03]), 0);
     assert_eq!(byte(&mut device, 0x7A), 0x00);
@@ -143,7 +149,7 @@ fn clear_faults_sets_present_causes_again() {
     device.measure(0, 3, 0x7BFF);
     device.measure(0, 3, 0x0000);
     assert_eq!(write_pec(&mut device, &[0x03]), 0);
-    assert_eq!(device.pages[0].status, [0x80, 0, 0, 0]);
+    assert_eq!(device.pages[0].status, [0xC0, 0, 0, 0]);
     assert!(device.alert && device.pages[0].tripped);
 }
 

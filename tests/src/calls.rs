@@ -131,9 +131,9 @@ fn code(random: &mut Random) -> u8 {
 
 /// A code to write: mostly one that is written, and often PAGE, OPERATION or CLEAR_FAULTS.
 fn written_code(random: &mut Random) -> u8 {
-    const WRITTEN: [u8; 17] = [
-        0x00, 0x01, 0x03, 0x10, 0x21, 0x40, 0x41, 0x46, 0x47, 0x4F, 0x50, 0x53, 0x54, 0x55, 0x56,
-        0x59, 0x5A,
+    const WRITTEN: [u8; 22] = [
+        0x00, 0x01, 0x03, 0x10, 0x21, 0x40, 0x41, 0x42, 0x46, 0x47, 0x4A, 0x4F, 0x50, 0x51, 0x53,
+        0x54, 0x55, 0x56, 0x57, 0x58, 0x59, 0x5A,
     ];
     match random.below(8) {
         0 => code(random),
@@ -166,9 +166,9 @@ fn data(random: &mut Random, unpaged: &Unpaged, pages: &[Page], code: u8) -> Vec
         _ => random.u8(),
     };
     let measured = match code {
-        0x40 => page.words[0],
-        0x46 => page.words[1],
-        0x4F | 0x53 => page.words[3],
+        0x40 | 0x42 => page.words[0],
+        0x46 | 0x4A => page.words[1],
+        0x4F | 0x51 | 0x53 => page.words[3],
         _ => page.words[2],
     };
     let word = states::near(random, measured).to_le_bytes();
@@ -252,10 +252,10 @@ fn measure(random: &mut Random, unpaged: &Unpaged, pages: &[Page]) -> Call {
     };
     let limits = page_at(pages, page).limits;
     let limit = match quantity {
-        0 => limits[0],
-        1 => limits[1],
-        2 => random.pick(&[limits[4], limits[5]]),
-        _ => random.pick(&[limits[2], limits[3]]),
+        0 => random.pick(&[limits[0], limits[6]]),
+        1 => random.pick(&[limits[1], limits[7]]),
+        2 => random.pick(&[limits[4], limits[5], limits[9], limits[10]]),
+        _ => random.pick(&[limits[2], limits[3], limits[8]]),
     };
     Call::Measure(page, quantity, states::near(random, limit))
 }

@@ -21,12 +21,13 @@ pub struct Unpaged {
     pub energy: Account,
 }
 
+/// The first six limits are those of the causes, the others those of the warnings.
 #[repr(C)]
 #[derive(Clone, Copy, Debug, PartialEq, Eq)]
 pub struct Page {
     pub operation: u8,
     pub command: u16,
-    pub limits: [u16; 6],
+    pub limits: [u16; 11],
     pub responses: [u8; 6],
     pub words: [u16; 4],
     pub measured: [bool; 4],

@@ -9,7 +9,8 @@ pub fn page_to_reference(page: &library::Page) -> Page {
     Page {
         operation: page.operation,
         vout_command: page.command,
-        limits: page.limits,
+        limits: std::array::from_fn(|cause| page.limits[cause]),
+        warn_limits: std::array::from_fn(|warning| page.limits[6 + warning]),
         responses: page.responses,
         status: page.status,
         tripped: page.tripped,
@@ -24,7 +25,10 @@ pub fn page_from_reference(page: &Page) -> library::Page {
     library::Page {
         operation: page.operation,
         command: page.vout_command,
-        limits: page.limits,
+        limits: std::array::from_fn(|limit| match limit {
+            0..=5 => page.limits[limit],
+            _ => page.warn_limits[limit - 6],
+        }),
         responses: page.responses,
         words: page.readings.map(|reading| reading.word),
         measured: page.readings.map(|reading| reading.measured),

@@ -5,8 +5,8 @@ use crate::random::Random;
 
 /// Response 47 is the second.
 const IOUT_OC: usize = 1;
-/// The quantity that each of the six causes looks at.
-const QUANTITY: [usize; 6] = [0, 1, 3, 3, 2, 2];
+/// The quantity that each limit is held against: those of the six causes, then those of the five warnings.
+const QUANTITY: [usize; 11] = [0, 1, 3, 3, 2, 2, 0, 1, 3, 2, 2];
 
 /// A word: any, an end or a limit of the document, or a small one.
 pub fn word(random: &mut Random) -> u16 {
@@ -54,18 +54,20 @@ fn register(random: &mut Random) -> u8 {
 
 /// A record that gets no answer 15.
 pub fn page(random: &mut Random) -> Page {
-    const POWER_ON: [u16; 6] = [0x2A3D, 0xD280, 0xEB70, 0xEEC0, 0xD3FF, 0xC3F5];
-    let limits: [u16; 6] = std::array::from_fn(|cause| {
+    const POWER_ON: [u16; 11] = [
+        0x2A3D, 0xD280, 0xEB70, 0xEEC0, 0xD3FF, 0xC3F5, 0x2A3D, 0xD280, 0xEB70, 0xD3FF, 0xC3F5,
+    ];
+    let limits: [u16; 11] = std::array::from_fn(|limit| {
         if random.bool() {
-            POWER_ON[cause]
+            POWER_ON[limit]
         } else {
             word(random)
         }
     });
     let mut words = [0; 4];
-    for cause in 0..6 {
-        if words[QUANTITY[cause]] == 0 || random.bool() {
-            words[QUANTITY[cause]] = near(random, limits[cause]);
+    for limit in 0..limits.len() {
+        if words[QUANTITY[limit]] == 0 || random.bool() {
+            words[QUANTITY[limit]] = near(random, limits[limit]);
         }
     }
     Page {

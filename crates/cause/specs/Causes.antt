@@ -1,9 +1,9 @@
--- The table of causes: what is held against which limit, which bit shows it, and what its response byte means. What the other crates say
--- of causes, their codes included, is worked out from this table or proved to agree with it.
+-- The table of causes and warnings: what is held against which limit, which bit shows it, and for a cause what its response byte means. What
+-- the other crates say of them, their codes included, is worked out from this table or proved to agree with it.
 -- Assumes nothing.
 use Prim.Native.Nat.{ℕ, _-_}
 use mathlib.Core.Bool.{Bool, false, _||_}
-use mathlib.Core.List.{List, [], _∷_, map}
+use mathlib.Core.List.{List, [], _∷_, _++_, map}
 use lib.Dec.{eqb}
 use lib.ListN.{getD}
 
@@ -99,10 +99,24 @@ causes =
     ∷ cause (limit 5 0x59 VIN below 0x7C 4 0xC3F5) (response 0x5A voltage 0x80)  -- VIN_UV
     ∷ []
 
--- the columns, in the order of the numbers
-abbrev pub limits : List Limit
-limits = map (λ c. c .limit) causes
+-- Data sheet 6.13: limits without a response, whose crossing is a warning. At power-on each has the word of its cause's limit.
+unfoldable pub warnings : List Limit
+warnings =
+    limit 6 0x42 VOUT above 0x7A 6 0x2A3D  -- VOUT_OV
+    ∷ limit 7 0x4A IOUT above 0x7B 5 0xD280  -- IOUT_OC
+    ∷ limit 8 0x51 TEMPERATURE above 0x7D 6 0xEB70  -- OT
+    ∷ limit 9 0x57 VIN above 0x7C 6 0xD3FF  -- VIN_OV
+    ∷ limit 10 0x58 VIN below 0x7C 5 0xC3F5  -- VIN_UV
+    ∷ []
 
+abbrev pub faults : List Limit
+faults = map (λ c. c .limit) causes
+
+-- all eleven limits, in the order of the numbers
+abbrev pub limits : List Limit
+limits = faults ++ warnings
+
+-- the responses of the six causes
 abbrev pub responses : List Response
 responses = map (λ c. c .response) causes
 

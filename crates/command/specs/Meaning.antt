@@ -18,22 +18,27 @@ settingOf c =
     (cond (eqb c 0x21) VoutCommand
     Absent))))))
 
--- 40h to 5Ah: the limit and the response of each cause, by the cause's number (data sheet 6.1)
+-- 40h to 5Ah: the limit and the response of each cause, and the limit of each warning, by their numbers (data sheet 6.1, 6.13)
 unfoldable pub faultOf : ℕ → Command
 faultOf c =
     cond (eqb c 0x40) (Limit 0)
     (cond (eqb c 0x41) (Response 0)
+    (cond (eqb c 0x42) (Limit 6)
     (cond (eqb c 0x46) (Limit 1)
     (cond (eqb c 0x47) (Response 1)
+    (cond (eqb c 0x4A) (Limit 7)
     (cond (eqb c 0x4F) (Limit 2)
     (cond (eqb c 0x50) (Response 2)
+    (cond (eqb c 0x51) (Limit 8)
     (cond (eqb c 0x53) (Limit 3)
     (cond (eqb c 0x54) (Response 3)
     (cond (eqb c 0x55) (Limit 4)
     (cond (eqb c 0x56) (Response 4)
+    (cond (eqb c 0x57) (Limit 9)
+    (cond (eqb c 0x58) (Limit 10)
     (cond (eqb c 0x59) (Limit 5)
     (cond (eqb c 0x5A) (Response 5)
-    Absent)))))))))))
+    Absent))))))))))))))))
 
 -- 86h to 98h: the account, the latest word of a quantity by its number (data sheet 5.1), the revision
 unfoldable pub readingOf : ℕ → Command

@@ -30,14 +30,19 @@ table =
     ∷ (0x21, RW, 2)  -- VOUT_COMMAND
     ∷ (0x40, RW, 2)  -- VOUT_OV_FAULT_LIMIT
     ∷ (0x41, RW, 1)  -- VOUT_OV_FAULT_RESPONSE
+    ∷ (0x42, RW, 2)  -- VOUT_OV_WARN_LIMIT
     ∷ (0x46, RW, 2)  -- IOUT_OC_FAULT_LIMIT
     ∷ (0x47, RW, 1)  -- IOUT_OC_FAULT_RESPONSE
+    ∷ (0x4A, RW, 2)  -- IOUT_OC_WARN_LIMIT
     ∷ (0x4F, RW, 2)  -- OT_FAULT_LIMIT
     ∷ (0x50, RW, 1)  -- OT_FAULT_RESPONSE
+    ∷ (0x51, RW, 2)  -- OT_WARN_LIMIT
     ∷ (0x53, RW, 2)  -- UT_FAULT_LIMIT
     ∷ (0x54, RW, 1)  -- UT_FAULT_RESPONSE
     ∷ (0x55, RW, 2)  -- VIN_OV_FAULT_LIMIT
     ∷ (0x56, RW, 1)  -- VIN_OV_FAULT_RESPONSE
+    ∷ (0x57, RW, 2)  -- VIN_OV_WARN_LIMIT
+    ∷ (0x58, RW, 2)  -- VIN_UV_WARN_LIMIT
     ∷ (0x59, RW, 2)  -- VIN_UV_FAULT_LIMIT
     ∷ (0x5A, RW, 1)  -- VIN_UV_FAULT_RESPONSE
     ∷ (0x78, R, 1)  -- STATUS_BYTE

@@ -10,7 +10,8 @@ pub enum Command {
     Capability,
     VoutMode,
     VoutCommand,
-    // a fault limit and its response: 0 VOUT_OV, 1 IOUT_OC, 2 OT, 3 UT, 4 VIN_OV, 5 VIN_UV
+    // a fault limit and its response: 0 VOUT_OV, 1 IOUT_OC, 2 OT, 3 UT, 4 VIN_OV, 5 VIN_UV;
+    // a warn limit: 6 VOUT_OV, 7 IOUT_OC, 8 OT, 9 VIN_OV, 10 VIN_UV
     Limit(u8),
     Response(u8),
     StatusByte,
@@ -40,21 +41,26 @@ fn setting_of(code: u8) -> Command
     }
 }
 
-// 40h to 5Ah: the fault limits and their responses
+// 40h to 5Ah: the fault limits, their responses and the warn limits
 fn fault_of(code: u8) -> Command
     ensures { λ r. ⌜ r ≡ faultOf code ⌝ }
 {
     match code {
         0x40 => Command::Limit(0),
         0x41 => Command::Response(0),
+        0x42 => Command::Limit(6),
         0x46 => Command::Limit(1),
         0x47 => Command::Response(1),
+        0x4A => Command::Limit(7),
         0x4F => Command::Limit(2),
         0x50 => Command::Response(2),
+        0x51 => Command::Limit(8),
         0x53 => Command::Limit(3),
         0x54 => Command::Response(3),
         0x55 => Command::Limit(4),
         0x56 => Command::Response(4),
+        0x57 => Command::Limit(9),
+        0x58 => Command::Limit(10),
         0x59 => Command::Limit(5),
         0x5A => Command::Response(5),
         _ => Command::Absent,

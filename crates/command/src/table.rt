@@ -12,7 +12,7 @@ const W: u8 = 2;
 
 const RW: u8 = 3;
 
-const TABLE: [Row; 32] = [
+const TABLE: [Row; 37] = [
     Row(0x00, RW, 1), // PAGE
     Row(0x01, RW, 1), // OPERATION
     Row(0x03, W, 0), // CLEAR_FAULTS
@@ -22,14 +22,19 @@ const TABLE: [Row; 32] = [
     Row(0x21, RW, 2), // VOUT_COMMAND
     Row(0x40, RW, 2), // VOUT_OV_FAULT_LIMIT
     Row(0x41, RW, 1), // VOUT_OV_FAULT_RESPONSE
+    Row(0x42, RW, 2), // VOUT_OV_WARN_LIMIT
     Row(0x46, RW, 2), // IOUT_OC_FAULT_LIMIT
     Row(0x47, RW, 1), // IOUT_OC_FAULT_RESPONSE
+    Row(0x4A, RW, 2), // IOUT_OC_WARN_LIMIT
     Row(0x4F, RW, 2), // OT_FAULT_LIMIT
     Row(0x50, RW, 1), // OT_FAULT_RESPONSE
+    Row(0x51, RW, 2), // OT_WARN_LIMIT
     Row(0x53, RW, 2), // UT_FAULT_LIMIT
     Row(0x54, RW, 1), // UT_FAULT_RESPONSE
     Row(0x55, RW, 2), // VIN_OV_FAULT_LIMIT
     Row(0x56, RW, 1), // VIN_OV_FAULT_RESPONSE
+    Row(0x57, RW, 2), // VIN_OV_WARN_LIMIT
+    Row(0x58, RW, 2), // VIN_UV_WARN_LIMIT
     Row(0x59, RW, 2), // VIN_UV_FAULT_LIMIT
     Row(0x5A, RW, 1), // VIN_UV_FAULT_RESPONSE
     Row(0x78, R, 1), // STATUS_BYTE
@@ -55,11 +60,11 @@ pub struct Entry {
 }
 
 // The row of a code, with no access where t has none.
-fn row_in(t: [Row; 32], code: u8) -> Row
+fn row_in(t: [Row; 37], code: u8) -> Row
     ensures { λ r. ⌜ r ≡ rowIn t code ⌝ }
 {
     let mut i: usize = 0;
-    while i < 32 {
+    while i < 37 {
         let row = t[i];
         if row.0 == code {
             return row;

@@ -13,6 +13,9 @@ use Rattle.history.proofs.ReadBack.{stored-codes, written-back, write-t
 use Rattle.history.proofs.Refusals.{unchanged}
 use Rattle.history.proofs.Runs.{reached-whole}
 use Rattle.history.proofs.Tripping.{tripped, stays-tripped, trips}
+use Rattle.history.proofs.AlikePages.{supply-alike}
+use Rattle.history.proofs.Warnings.{stay-alike, warn-limits-aside}
+use Rattle.history.proofs.WarningReplies.{reply-alike}
 use Rattle.history.proofs.Valid.{fifteen, reached-valid, no-fifteen}
 
 pub claims : Claims
@@ -40,6 +43,10 @@ claims =
       tripped = tripped;
       stays-tripped = stays-tripped;
       trips = trips;
+      stay-alike = stay-alike;
+      reply-alike = reply-alike;
+      warn-limits-aside = warn-limits-aside;
+      supply-alike = supply-alike;
       alert-rises = alert-rises;
       alert-cleared = alert-cleared;
       alert-answered = alert-answered;

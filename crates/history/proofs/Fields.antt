@@ -11,7 +11,7 @@ use lib.Seq.{getD-set-same, getD-set-other}
 use borrow.Author.Tests.{eqb-true, eqb-false}
 use Rattle.laws.proofs.Branches.{either, cond-same, cond-apply}
 use Rattle.laws.proofs.Every.{below, each, agree-test}
-use Rattle.cause.specs.Causes.{causes, limitOf, responseOf}
+use Rattle.cause.specs.Causes.{causes, warnings, limitOf, responseOf}
 use Rattle.command.specs.declared.meaning.Command.the-variants.{Limit, Response}
 use Rattle.command.specs.Meaning.{commandOf, settingOf, faultOf, readingOf}
 use Rattle.command.specs.Causes.{CausesAgree}
@@ -29,13 +29,13 @@ use Rattle.writes.specs.Left.{applied, changed, cleared, pageLeft}
 -- ---- lengths
 
 pub record Sized (p : Page) : Type 0 where
-  pub limits : length (p .limits) ≡ 6
+  pub limits : length (p .limits) ≡ 11
   pub responses : length (p .responses) ≡ 6
   pub words : length (p .words) ≡ 4
   pub measured : length (p .measured) ≡ 4
 
 pub powered-sized : Sized powerOnPage
-unfolding powerOnPage causes
+unfolding powerOnPage causes warnings
 powered-sized = record { limits = refl; responses = refl; words = refl; measured = refl }
 
 module _ (p : Page) (z : Sized p) where
@@ -44,7 +44,7 @@ module _ (p : Page) (z : Sized p) where
   applied-sized (Setting.Operation x) = record { limits = z .limits; responses = z .responses; words = z .words; measured = z .measured }
   applied-sized (Setting.VoutCommand w) = record { limits = z .limits; responses = z .responses; words = z .words; measured = z .measured }
   applied-sized (Setting.Limit k w) = record {
-    limits = length-set (p .limits) (k % 6) w ∙ z .limits;
+    limits = length-set (p .limits) (k % 11) w ∙ z .limits;
     responses = z .responses;
     words = z .words;
     measured = z .measured;
@@ -84,17 +84,17 @@ left-sized p z (Write.ClearCml m) = z
 
 -- ---- settings, by the written code
 
--- Of a write: the limit that it sets, and its word; the response, and its byte. There are six of each, so 6 is none.
+-- Of a write: the limit that it sets, and its word; the response, and its byte. There are eleven limits and six responses, so 11 and 6 are none.
 abbrev limitNumber : Write → ℕ
-limitNumber Write.Nothing = 6
-limitNumber (Write.SelectPage x) = 6
-limitNumber (Write.Protect x) = 6
-limitNumber (Write.Change (Setting.Operation x)) = 6
-limitNumber (Write.Change (Setting.VoutCommand w)) = 6
-limitNumber (Write.Change (Setting.Limit k w)) = k % 6
-limitNumber (Write.Change (Setting.Response k x)) = 6
-limitNumber (Write.Clear m) = 6
-limitNumber (Write.ClearCml m) = 6
+limitNumber Write.Nothing = 11
+limitNumber (Write.SelectPage x) = 11
+limitNumber (Write.Protect x) = 11
+limitNumber (Write.Change (Setting.Operation x)) = 11
+limitNumber (Write.Change (Setting.VoutCommand w)) = 11
+limitNumber (Write.Change (Setting.Limit k w)) = k % 11
+limitNumber (Write.Change (Setting.Response k x)) = 11
+limitNumber (Write.Clear m) = 11
+limitNumber (Write.ClearCml m) = 11
 
 abbrev responseNumber : Write → ℕ
 responseNumber Write.Nothing = 6
@@ -107,8 +107,8 @@ responseNumber (Write.Change (Setting.Response k x)) = k % 6
 responseNumber (Write.Clear m) = 6
 responseNumber (Write.ClearCml m) = 6
 
-module _ (p : Page) (z : Sized p) (k : ℕ) (small : k < 6) where
-  -- a write that sets no other limit than k leaves it; so with responses
+module _ (p : Page) (z : Sized p) (k : ℕ) (small : k < 11) where
+  -- a write that sets no other limit than k leaves it
   other-limit : (w : Write) → eqb (limitNumber w) k ≡ false → getD (pageLeft w p .limits) k 0 ≡ getD (p .limits) k 0
   unfolding pageLeft changed cleared settled clearBits applied setOperation setVoutCommand setLimit setResponse
   other-limit Write.Nothing n = refl
@@ -117,11 +117,21 @@ module _ (p : Page) (z : Sized p) (k : ℕ) (small : k < 6) where
   other-limit (Write.Change (Setting.Operation x)) n = refl
   other-limit (Write.Change (Setting.VoutCommand w)) n = refl
   other-limit (Write.Change (Setting.Limit j w)) n =
-      let other = eqb-false (j % 6) k n in getD-set-other (p .limits) (j % 6) k w 0 (λ e. other (sym e))
+      let other = eqb-false (j % 11) k n in getD-set-other (p .limits) (j % 11) k w 0 (λ e. other (sym e))
   other-limit (Write.Change (Setting.Response j x)) n = refl
   other-limit (Write.Clear m) n = refl
   other-limit (Write.ClearCml m) n = refl
 
+  -- limit k, set
+  own-limit : (w : ℕ) → getD (pageLeft (Write.Change (Setting.Limit k w)) p .limits) k 0 ≡ w
+  unfolding pageLeft changed settled applied setLimit
+  own-limit w =
+      let same : k % 11 ≡ k = omega arith in
+      let long = z .limits in
+      rw same (getD-set-same (p .limits) k w 0 (omega arith))
+
+module _ (p : Page) (z : Sized p) (k : ℕ) (small : k < 6) where
+  -- so with responses
   other-response : (w : Write) → eqb (responseNumber w) k ≡ false → getD (pageLeft w p .responses) k 0 ≡ getD (p .responses) k 0
   unfolding pageLeft changed cleared settled clearBits applied setOperation setVoutCommand setLimit setResponse
   other-response Write.Nothing n = refl
@@ -135,14 +145,6 @@ module _ (p : Page) (z : Sized p) (k : ℕ) (small : k < 6) where
   other-response (Write.Clear m) n = refl
   other-response (Write.ClearCml m) n = refl
 
-  -- limit k and response k, set
-  own-limit : (w : ℕ) → getD (pageLeft (Write.Change (Setting.Limit k w)) p .limits) k 0 ≡ w
-  unfolding pageLeft changed settled applied setLimit
-  own-limit w =
-      let same : k % 6 ≡ k = omega arith in
-      let long = z .limits in
-      rw same (getD-set-same (p .limits) k w 0 (omega arith))
-
   own-response : (x : ℕ) → getD (pageLeft (Write.Change (Setting.Response k x)) p .responses) k 0 ≡ x
   unfolding pageLeft changed settled applied setResponse
   own-response x =
@@ -151,14 +153,14 @@ module _ (p : Page) (z : Sized p) (k : ℕ) (small : k < 6) where
       rw same (getD-set-same (p .responses) k x 0 (omega arith))
 
 -- by computation at each code
-limit-number : (x w k c : ℕ) → k < 6 → c < 256 → eqb (limitNumber (writeOf (commandOf c) x w)) k ≡ eqb c (limitOf k .limitCode)
-unfolding commandOf settingOf faultOf readingOf writeOf clearFaults clearStatus causes
+limit-number : (x w k c : ℕ) → k < 11 → c < 256 → eqb (limitNumber (writeOf (commandOf c) x w)) k ≡ eqb c (limitOf k .limitCode)
+unfolding commandOf settingOf faultOf readingOf writeOf clearFaults clearStatus causes warnings
 limit-number x w k c hk hc =
     agree-test (λ c. eqb (limitNumber (writeOf (commandOf c) x w)) k) (λ c. eqb c (limitOf k .limitCode)) 256
-    (each (λ k. below (λ c. Bool·beq (eqb (limitNumber (writeOf (commandOf c) x w)) k) (eqb c (limitOf k .limitCode))) 256) 6 tt k hk) c hc
+    (each (λ k. below (λ c. Bool·beq (eqb (limitNumber (writeOf (commandOf c) x w)) k) (eqb c (limitOf k .limitCode))) 256) 11 tt k hk) c hc
 
 response-number : (x w k c : ℕ) → k < 6 → c < 256 → eqb (responseNumber (writeOf (commandOf c) x w)) k ≡ eqb c (responseOf k .responseCode)
-unfolding commandOf settingOf faultOf readingOf writeOf clearFaults clearStatus causes
+unfolding commandOf settingOf faultOf readingOf writeOf clearFaults clearStatus causes warnings
 response-number x w k c hk hc =
     agree-test (λ c. eqb (responseNumber (writeOf (commandOf c) x w)) k) (λ c. eqb c (responseOf k .responseCode)) 256
     (each (λ k. below (λ c. Bool·beq (eqb (responseNumber (writeOf (commandOf c) x w)) k) (eqb c (responseOf k .responseCode))) 256) 6 tt k hk) c hc
@@ -187,7 +189,7 @@ module _ (code x w : ℕ) where
   command-code p =
       either (eqb code 0x21) (λ y. rw (eqb-true code 0x21 y)) (λ n. simp (n, cond-apply (λ c. pageLeft (writeOf c x w) p .command), status-command p, cond-same))
 
-  pub limit-code : (p : Page) → Sized p → (k : ℕ) → k < 6 → code < 256
+  pub limit-code : (p : Page) → Sized p → (k : ℕ) → k < 11 → code < 256
       → getD (after p .limits) k 0 ≡ cond (eqb code (limitOf k .limitCode)) w (getD (p .limits) k 0)
   unfolding writeOf CausesAgree
   limit-code p z k h byte =
@@ -203,7 +205,7 @@ module _ (code x w : ℕ) where
   response-code p z k h byte =
       either (eqb code (responseOf k .responseCode))
       (λ y. let same = eqb-true code (responseOf k .responseCode) y in
-      let means : commandOf code ≡ Response k = ap commandOf same ∙ causes-agree .0 k h .response in
+      let means : commandOf code ≡ Response k = ap commandOf same ∙ causes-agree .1 k h in
       rw (y, means) (own-response p z k h x))
       (λ n. rw n (other-response p z k h (writeOf (commandOf code) x w) (response-number x w k code h byte ∙ n)))
 

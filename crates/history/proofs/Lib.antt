@@ -6,6 +6,7 @@ pub mod PageLeft
 pub mod PageAfter
 pub mod Runs
 pub mod Latching
+pub mod AlikePages
 pub mod Tripping
 pub mod Cml
 pub mod Valid
@@ -13,6 +14,8 @@ pub mod Alert
 pub mod Account
 pub mod Energy
 pub mod Effects
+pub mod Warnings
+pub mod WarningReplies
 pub mod Fields
 pub mod Stored
 pub mod StoredSteps

@@ -153,11 +153,11 @@ stored-codes c h =
 
 module _ (m : ℕ) (h : m < length stored) where
   stored-byte : storedAt m .0 < 256
-  stored-byte = ltb→lt (storedAt m .0) 256 (each (λ m. ltb (storedAt m .0) 256) 16 tt m h)
+  stored-byte = ltb→lt (storedAt m .0) 256 (each (λ m. ltb (storedAt m .0) 256) 21 tt m h)
 
   stored-read : lookup (storedAt m .0) .read ≡ true
   unfolding lookup table entryOf
-  stored-read = agree-test (λ m. lookup (storedAt m .0) .read) (λ m. true) 16 tt m h
+  stored-read = agree-test (λ m. lookup (storedAt m .0) .read) (λ m. true) 21 tt m h
 
 module _ (n : ℕ) (cs : List Call) (i : ℕ) (b : AllOnBus cs) (small : i < n) (code : ℕ) (start : List ℕ) where
   abbrev after : Device

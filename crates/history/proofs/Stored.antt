@@ -11,7 +11,7 @@ use lib.ListN.{length, getD, take}
 use borrow.Author.Tests.{eqb-true}
 use Rattle.laws.proofs.Branches.{either}
 use Rattle.laws.proofs.Every.{agree, agree-test}
-use Rattle.cause.specs.Causes.{causes, limitOf, responseOf}
+use Rattle.cause.specs.Causes.{causes, warnings, limitOf, responseOf}
 use Rattle.command.specs.Table.{table, entryOf, lookup}
 use Rattle.command.specs.Meaning.{commandOf, settingOf, faultOf}
 use Rattle.command.specs.Causes.{CausesAgree}
@@ -107,27 +107,19 @@ command-field = record {
   measure-keeps = λ p q w. refl;
 }
 
-module _ (k : ℕ) (small : k < 6) where
+module _ (k : ℕ) (small : k < 11) where
   limit-length : lookup (limitOf k .limitCode) .length ≡ 2
-  unfolding causes lookup table entryOf
-  limit-length = agree (λ k. lookup (limitOf k .limitCode) .length) (λ k. 2) 6 tt k small
-
-  response-length : lookup (responseOf k .responseCode) .length ≡ 1
-  unfolding causes lookup table entryOf
-  response-length = agree (λ k. lookup (responseOf k .responseCode) .length) (λ k. 1) 6 tt k small
+  unfolding causes warnings lookup table entryOf
+  limit-length = agree (λ k. lookup (limitOf k .limitCode) .length) (λ k. 2) 11 tt k small
 
   limit-paged : isUnpaged (limitOf k .limitCode) ≡ false
-  unfolding causes
-  limit-paged = agree-test (λ k. isUnpaged (limitOf k .limitCode)) (λ k. false) 6 tt k small
-
-  response-paged : isUnpaged (responseOf k .responseCode) ≡ false
-  unfolding causes
-  response-paged = agree-test (λ k. isUnpaged (responseOf k .responseCode)) (λ k. false) 6 tt k small
+  unfolding causes warnings
+  limit-paged = agree-test (λ k. isUnpaged (limitOf k .limitCode)) (λ k. false) 11 tt k small
 
   limit-field : PageField (limitOf k .limitCode)
   unfolding readData settled setMeasurement CausesAgree
   limit-field =
-      let same : k % 6 ≡ k = omega arith in
+      let same : k % 11 ≡ k = omega arith in
       record {
         get = λ p. wordBytes (getD (p .limits) k 0);
         shown = λ u p. rw (causes-agree .0 k small .limit, same);
@@ -136,13 +128,22 @@ module _ (k : ℕ) (small : k < 6) where
         measure-keeps = λ p q w. refl;
       }
 
+module _ (k : ℕ) (small : k < 6) where
+  response-length : lookup (responseOf k .responseCode) .length ≡ 1
+  unfolding causes warnings lookup table entryOf
+  response-length = agree (λ k. lookup (responseOf k .responseCode) .length) (λ k. 1) 6 tt k small
+
+  response-paged : isUnpaged (responseOf k .responseCode) ≡ false
+  unfolding causes warnings
+  response-paged = agree-test (λ k. isUnpaged (responseOf k .responseCode)) (λ k. false) 6 tt k small
+
   response-field : PageField (responseOf k .responseCode)
   unfolding readData settled setMeasurement CausesAgree
   response-field =
       let same : k % 6 ≡ k = omega arith in
       record {
         get = λ p. getD (p .responses) k 0 ∷ [];
-        shown = λ u p. rw (causes-agree .0 k small .response, same);
+        shown = λ u p. rw (causes-agree .1 k small, same);
         paged = response-paged;
         write-sets = λ p z c x y b h. byte-data _ c x y (getD (p .responses) k 0) _ response-length (response-code c x (wordOf x y) p z k small b);
         measure-keeps = λ p q w. refl;
@@ -169,7 +170,7 @@ each-at P past (x ∷ l) (e also es) zero h = e
 each-at P past (x ∷ l) (e also es) (suc m) h = each-at P past l es m (le-of-suc-le-suc h)
 
 pub rows : Each Row stored
-unfolding causes commandOf settingOf faultOf readData powerOnUnpaged powerOnPage
+unfolding causes warnings commandOf settingOf faultOf readData powerOnUnpaged powerOnPage
 rows =
     record { field = onDevice page-field; powered = refl }
     also record { field = onPage operation-field; powered = refl }
@@ -177,14 +178,19 @@ rows =
     also record { field = onPage command-field; powered = refl }
     also record { field = onPage (limit-field 0 (omega arith)); powered = refl }
     also record { field = onPage (response-field 0 (omega arith)); powered = refl }
+    also record { field = onPage (limit-field 6 (omega arith)); powered = refl }
     also record { field = onPage (limit-field 1 (omega arith)); powered = refl }
     also record { field = onPage (response-field 1 (omega arith)); powered = refl }
+    also record { field = onPage (limit-field 7 (omega arith)); powered = refl }
     also record { field = onPage (limit-field 2 (omega arith)); powered = refl }
     also record { field = onPage (response-field 2 (omega arith)); powered = refl }
+    also record { field = onPage (limit-field 8 (omega arith)); powered = refl }
     also record { field = onPage (limit-field 3 (omega arith)); powered = refl }
     also record { field = onPage (response-field 3 (omega arith)); powered = refl }
     also record { field = onPage (limit-field 4 (omega arith)); powered = refl }
     also record { field = onPage (response-field 4 (omega arith)); powered = refl }
+    also record { field = onPage (limit-field 9 (omega arith)); powered = refl }
+    also record { field = onPage (limit-field 10 (omega arith)); powered = refl }
     also record { field = onPage (limit-field 5 (omega arith)); powered = refl }
     also record { field = onPage (response-field 5 (omega arith)); powered = refl }
     also none

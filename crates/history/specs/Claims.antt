@@ -8,6 +8,7 @@ use Rattle.history.specs.Pages.{PagesStay}
 use Rattle.history.specs.Clearing.{Falls, FallsCml}
 use Rattle.history.specs.Latching.{Latched, Latches, LatchesCml}
 use Rattle.history.specs.Tripping.{Tripped, StaysTripped, Trips}
+use Rattle.history.specs.Warnings.{StayAlike, ReplyAlike, WarnLimitsAside, SupplyAlike}
 use Rattle.history.specs.Alert.{AlertRises, AlertCleared, AlertAnswered}
 use Rattle.history.specs.Energy.{Demand3}
 use Rattle.history.specs.Effects.{Effects}
@@ -52,7 +53,7 @@ pub record Claims : Type 0 where
   pub falls : Falls
   -- so does a bit of STATUS_CML
   pub falls-cml : FallsCml
-  -- after every call of a run each present cause has its bit
+  -- after every call of a run each present cause and warning has its bit
   pub latched : Latched
   -- each bit of a page after a call, in one equation
   pub latches : Latches
@@ -65,6 +66,15 @@ pub record Claims : Type 0 where
   pub stays-tripped : StaysTripped
   -- the trip after a call, in one equation
   pub trips : Trips
+  -- ---- warnings (Warnings.antt; data sheet 6.15)
+  -- devices that differ in warn limits, warnings' bits and the alert answer alike and stay so
+  pub stay-alike : StayAlike
+  -- and reply alike to reads of codes that show no warnings
+  pub reply-alike : ReplyAlike
+  -- a run goes on alike with an accepted write of a warn limit and without it
+  pub warn-limits-aside : WarnLimitsAside
+  -- and alike pages supply alike
+  pub supply-alike : SupplyAlike
   -- ---- the alert (Alert.antt; data sheet 8)
   -- it rises exactly with a bit that turns from 0 to 1, and stays up
   pub alert-rises : AlertRises

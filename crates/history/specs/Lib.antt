@@ -4,6 +4,7 @@ pub mod Refusals
 pub mod Clearing
 pub mod Pages
 pub mod Latching
+pub mod Warnings
 pub mod Tripping
 pub mod Alert
 pub mod Accepted

@@ -50,14 +50,19 @@ stored =
     ∷ (0x21, 0x66 ∷ 0x26 ∷ [])  -- VOUT_COMMAND
     ∷ (0x40, 0x3D ∷ 0x2A ∷ [])  -- VOUT_OV_FAULT_LIMIT
     ∷ (0x41, 0x80 ∷ [])  -- VOUT_OV_FAULT_RESPONSE
+    ∷ (0x42, 0x3D ∷ 0x2A ∷ [])  -- VOUT_OV_WARN_LIMIT
     ∷ (0x46, 0x80 ∷ 0xD2 ∷ [])  -- IOUT_OC_FAULT_LIMIT
     ∷ (0x47, 0xC0 ∷ [])  -- IOUT_OC_FAULT_RESPONSE
+    ∷ (0x4A, 0x80 ∷ 0xD2 ∷ [])  -- IOUT_OC_WARN_LIMIT
     ∷ (0x4F, 0x70 ∷ 0xEB ∷ [])  -- OT_FAULT_LIMIT
     ∷ (0x50, 0x80 ∷ [])  -- OT_FAULT_RESPONSE
+    ∷ (0x51, 0x70 ∷ 0xEB ∷ [])  -- OT_WARN_LIMIT
     ∷ (0x53, 0xC0 ∷ 0xEE ∷ [])  -- UT_FAULT_LIMIT
     ∷ (0x54, 0x80 ∷ [])  -- UT_FAULT_RESPONSE
     ∷ (0x55, 0xFF ∷ 0xD3 ∷ [])  -- VIN_OV_FAULT_LIMIT
     ∷ (0x56, 0x80 ∷ [])  -- VIN_OV_FAULT_RESPONSE
+    ∷ (0x57, 0xFF ∷ 0xD3 ∷ [])  -- VIN_OV_WARN_LIMIT
+    ∷ (0x58, 0xF5 ∷ 0xC3 ∷ [])  -- VIN_UV_WARN_LIMIT
     ∷ (0x59, 0xF5 ∷ 0xC3 ∷ [])  -- VIN_UV_FAULT_LIMIT
     ∷ (0x5A, 0x80 ∷ [])  -- VIN_UV_FAULT_RESPONSE
     ∷ []

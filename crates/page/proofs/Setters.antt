@@ -11,7 +11,7 @@ use Rattle.laws.specs.Bits.{bit}
 use Rattle.laws.proofs.Bits.{without-bit, zero-bit}
 use Rattle.laws.proofs.Branches.{either}
 use Rattle.laws.proofs.Lists.{set-cases}
-use Rattle.cause.specs.Causes.{causes}
+use Rattle.cause.specs.Causes.{causes, warnings}
 use Rattle.page.specs.declared.Page.{Page}
 use Rattle.page.specs.Page.{powerOnPage, noPage}
 use Rattle.page.specs.Causes.{settled}
@@ -159,9 +159,9 @@ module _ (p : Page) where
   settled-valid = refl
 
 pub powered-valid : pageValid powerOnPage ≡ true
-unfolding pageValid powerOnPage validOperation causes
+unfolding pageValid powerOnPage validOperation causes warnings
 powered-valid = refl
 
 pub none-valid : pageValid noPage ≡ true
-unfolding pageValid validOperation causes
+unfolding pageValid validOperation causes warnings
 none-valid = refl

@@ -7,7 +7,7 @@ use mathlib.Core.List.{List, [], _∷_}
 use native.Mathlib.Omega.{arith}
 use lib.Dec.{eqb, ltb, ltb→lt}
 use lib.Bits.{bitOr}
-use lib.ListN.{getD, length, List·getD-map}
+use lib.ListN.{getD, length, List·getD-map, List·getD-append}
 use borrow.Author.Tests.{eq-eqb}
 use Rattle.laws.specs.Bits.{bit}
 use Rattle.laws.specs.Lists.{anyOf}
@@ -15,11 +15,11 @@ use Rattle.laws.proofs.Bits.{or-bit, cond-bit, power-bit}
 use Rattle.laws.proofs.Branches.{either}
 use Rattle.laws.proofs.Every.{each}
 use Rattle.laws.proofs.Lists.{any-at}
-use Rattle.cause.specs.Causes.{Limit, Cause, causes, limits, limit, response, cause, above, voltage, limitOf, responseOf, register, staysOffAt}
+use Rattle.cause.specs.Causes.{Limit, Cause, causes, faults, warnings, limits, limit, response, cause, above, voltage, limitOf, responseOf, register, staysOffAt}
 use Rattle.cause.proofs.Regular.{regular}
 use Rattle.page.specs.declared.Page.{Page}
 use Rattle.page.specs.Page.{powerOnPage, noPage}
-use Rattle.page.specs.Causes.{presentCauses, crossed, present, weigh, marked, raised, staysOff, shutDown, settled}
+use Rattle.page.specs.Causes.{presentCauses, presentWarnings, presentLimits, crossed, present, weigh, marked, raised, staysOff, shutDown, settled}
 use Rattle.page.specs.Latching.{statusBit, registerOf, bitOf, caused, staysOffBy}
 
 -- the bit of weight 2 ^ m, where b is set
@@ -51,32 +51,32 @@ module _ (c : List Bool) (j k : ℕ) where
 -- each bit of an updated page stood before or has a present cause
 pub settled-bit : (q : Page) (j k : ℕ) → j < 4 → statusBit (settled q) j k ≡ (statusBit q j k || caused q j k)
 unfolding settled raised caused
-settled-bit q zero k h = marked-bit (presentCauses q) 0 k limits (getD (q .status) 0 0)
-settled-bit q (suc zero) k h = marked-bit (presentCauses q) 1 k limits (getD (q .status) 1 0)
-settled-bit q (suc (suc zero)) k h = marked-bit (presentCauses q) 2 k limits (getD (q .status) 2 0)
-settled-bit q (suc (suc (suc zero))) k h = marked-bit (presentCauses q) 3 k limits (getD (q .status) 3 0)
+settled-bit q zero k h = marked-bit (presentLimits q) 0 k limits (getD (q .status) 0 0)
+settled-bit q (suc zero) k h = marked-bit (presentLimits q) 1 k limits (getD (q .status) 1 0)
+settled-bit q (suc (suc zero)) k h = marked-bit (presentLimits q) 2 k limits (getD (q .status) 2 0)
+settled-bit q (suc (suc (suc zero))) k h = marked-bit (presentLimits q) 3 k limits (getD (q .status) 3 0)
 settled-bit q (suc (suc (suc (suc j)))) k h = absurd (omega arith)
 
--- the causes look neither at the status nor at the trip
-pub settled-causes : (q : Page) → presentCauses (settled q) ≡ presentCauses q
-unfolding settled presentCauses crossed causes
+-- causes and warnings look neither at the status nor at the trip
+pub settled-causes : (q : Page) → presentLimits (settled q) ≡ presentLimits q
+unfolding settled presentCauses presentWarnings crossed causes warnings
 settled-causes q = refl
 
 pub settled-caused : (q : Page) (j k : ℕ) → caused (settled q) j k ≡ caused q j k
 unfolding caused
 settled-caused q j k = ap (λ (c : List Bool). anyOf (shown c j k) limits) (settled-causes q)
 
--- ---- a cause by its number
+-- ---- a cause or a warning by its number
 
-pub register-lt : (n : ℕ) → n < 6 → registerOf n < 4
-unfolding causes
-register-lt n h = ltb→lt (registerOf n) 4 (each (λ n. ltb (registerOf n) 4) 6 tt n h)
+pub register-lt : (n : ℕ) → n < 11 → registerOf n < 4
+unfolding causes warnings
+register-lt n h = ltb→lt (registerOf n) 4 (each (λ n. ltb (registerOf n) 4) 11 tt n h)
 
--- a present cause has a bit
-pub cause-bit : (p : Page) (n : ℕ) → n < 6 → present p n ≡ true → caused p (registerOf n) (bitOf n) ≡ true
-unfolding caused causes
+-- a present one has a bit
+pub cause-bit : (p : Page) (n : ℕ) → n < 11 → present p n ≡ true → caused p (registerOf n) (bitOf n) ≡ true
+unfolding caused causes warnings
 cause-bit p n h e =
-    any-at (limit n 0 0 above 0 0 0) (shown (presentCauses p) (registerOf n) (bitOf n)) limits n h
+    any-at (limit n 0 0 above 0 0 0) (shown (presentLimits p) (registerOf n) (bitOf n)) limits n h
     (rw (regular n h .place, e, eq-eqb (registerOf n) (registerOf n) refl, eq-eqb (bitOf n) (bitOf n) refl))
 
 -- one that shuts down does so
@@ -87,25 +87,26 @@ module _ (p : Page) (n : ℕ) (e : present p n ≡ true) (r : staysOffBy p n ≡
   abbrev shuts : Cause → Bool
   shuts x = present p (x .limit .number) && staysOffAt (x .response .actions) (getD (p .responses) (x .limit .number) 0)
 
-  in-lines : n < length causes → limitOf n .number ≡ n → anyOf shuts causes ≡ true
-  in-lines h place =
-      let line : getD causes n none .limit ≡ limitOf n = sym (List·getD-map (λ c. c .limit) causes n none) in
+  in-lines : n < length causes → n < length faults → limitOf n .number ≡ n → anyOf shuts causes ≡ true
+  in-lines h fault place =
+      let line : getD causes n none .limit ≡ limitOf n =
+      sym (List·getD-append faults warnings (none .limit) n fault ∙ List·getD-map (λ c. c .limit) causes n none) in
       let acts : getD causes n none .response ≡ responseOf n = sym (List·getD-map (λ c. c .response) causes n none) in
       any-at none shuts causes n h (rw (line, acts, place, e, r))
 
 pub cause-shuts : (p : Page) (n : ℕ) → n < 6 → present p n ≡ true → staysOffBy p n ≡ true → shutDown p ≡ true
-unfolding staysOff causes
-cause-shuts p n h e r = in-lines p n e r h (regular n h .place)
+unfolding staysOff presentCauses causes warnings
+cause-shuts p n h e r = in-lines p n e r h h (regular n (omega arith) .place)
 
 -- ---- up to date
 
--- what every page of a run has: each present cause's bit is 1, and a present cause that shuts down has tripped it
+-- what every page of a run has: each present cause's and warning's bit is 1, and a present cause that shuts down has tripped it
 pub record UpToDate (p : Page) : Type 0 where
   pub latched : (j k : ℕ) → j < 4 → caused p j k ≡ true → statusBit p j k ≡ true
   pub tripped : shutDown p ≡ true → p .tripped ≡ true
 
 pub settled-trip : (q : Page) → settled q .tripped ≡ (q .tripped || shutDown (settled q))
-unfolding settled presentCauses crossed causes
+unfolding settled presentCauses presentWarnings crossed causes warnings
 settled-trip q = refl
 
 pub settled-current : (q : Page) → UpToDate (settled q)
@@ -114,18 +115,19 @@ settled-current q = record {
   tripped = λ e. settled-trip q ∙ rw e (or-true (q .tripped));
 }
 
--- a page without measurements has no present cause
-quiet : (p : Page) → presentCauses p ≡ false ∷ false ∷ false ∷ false ∷ false ∷ false ∷ [] → UpToDate p
-unfolding caused staysOff causes
-quiet p e = record {
-  latched = λ j k h c. absurd (false≢true (rw e at c));
+-- a page without measurements has no present cause and no warning
+quiet : (p : Page) → presentCauses p ≡ false ∷ false ∷ false ∷ false ∷ false ∷ false ∷ [] → presentWarnings p ≡ false ∷ false ∷ false ∷ false ∷ false ∷ []
+    → UpToDate p
+unfolding caused staysOff causes warnings
+quiet p e w = record {
+  latched = λ j k h c. absurd (false≢true (rw (e, w) at c));
   tripped = λ c. absurd (false≢true (rw e at c));
 }
 
 pub powered-current : UpToDate powerOnPage
-unfolding presentCauses crossed powerOnPage causes
-powered-current = quiet powerOnPage refl
+unfolding presentCauses presentWarnings crossed powerOnPage causes warnings
+powered-current = quiet powerOnPage refl refl
 
 pub none-current : UpToDate noPage
-unfolding presentCauses crossed causes
-none-current = quiet noPage refl
+unfolding presentCauses presentWarnings crossed causes warnings
+none-current = quiet noPage refl refl

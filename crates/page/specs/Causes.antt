@@ -1,15 +1,16 @@
--- Which causes are present on a page, and what they leave: all worked out from the table of causes.
+-- Which causes and warnings are present on a page, and what they leave: all worked out from their table.
 -- Assumes nothing.
 use Prim.Native.Nat.{ℕ, _^_}
-use mathlib.Core.Bool.{Bool, false, cond, _&&_, _||_}
-use mathlib.Core.List.{List, [], _∷_, map}
+use mathlib.Core.Bool.{Bool, true, false, cond, _&&_, _||_}
+use mathlib.Core.List.{List, [], _∷_, _++_, map}
 use lib.ListN.{getD}
 use lib.Dec.{eqb}
 use lib.Bits.{bitOr}
 use Rattle.laws.specs.Lists.{anyOf}
 use Rattle.linear11.specs.declared.Order.{Order}
-use Rattle.linear11.specs.Linear11.{linearOrder, wordOrder, isAbove, isBelow}
-use Rattle.cause.specs.Causes.{Side, above, below, VOUT, Limit, causes, limits, staysOffAt, lastsAt, register}
+use Rattle.linear11.specs.declared.Order.the-variants.{Below, Equal, Above}
+use Rattle.linear11.specs.Linear11.{linearOrder, wordOrder}
+use Rattle.cause.specs.Causes.{Side, above, below, VOUT, Limit, causes, faults, warnings, limits, staysOffAt, lastsAt, register}
 use Rattle.page.specs.declared.Page.{Page}
 use Rattle.page.specs.Page.{withStatus, withTripped}
 
@@ -19,8 +20,12 @@ orderBy quantity word limit = cond (eqb quantity VOUT) (wordOrder word limit) (l
 
 -- the order is that of the side; equal is on neither
 unfoldable pub onSide : Side → Order → Bool
-onSide above o = isAbove o
-onSide below o = isBelow o
+onSide above Below = false
+onSide above Equal = false
+onSide above Above = true
+onSide below Below = true
+onSide below Equal = false
+onSide below Above = false
 
 -- the latest word of the limit's quantity, if there is one, is past the limit on its side (data sheet 6.2)
 unfoldable pub crossed : Page → Limit → Bool
@@ -30,11 +35,19 @@ crossed p l =
 
 -- the causes in the order of their numbers, each present or not
 unfoldable pub presentCauses : Page → List Bool
-presentCauses p = map (crossed p) limits
+presentCauses p = map (crossed p) faults
 
--- cause n is present
+-- the warnings, likewise (data sheet 6.14)
+unfoldable pub presentWarnings : Page → List Bool
+presentWarnings p = map (crossed p) warnings
+
+-- both, in the order of the limits' numbers
+abbrev pub presentLimits : Page → List Bool
+presentLimits p = presentCauses p ++ presentWarnings p
+
+-- the cause or the warning of limit n is present
 abbrev pub present : Page → ℕ → Bool
-present p n = getD (presentCauses p) n false
+present p n = getD (presentLimits p) n false
 
 -- a bit of a register, by its weight, or none
 unfoldable pub weigh : Bool → ℕ → ℕ
@@ -46,7 +59,7 @@ marked c j [] x = x
 marked c j (l ∷ ls) x =
     marked c j ls (cond (eqb (register l) j) (bitOr x (weigh (getD c (l .number) false) (2 ^ l .bitNumber))) x)
 
--- the four registers with the bits of the present causes c
+-- the four registers with the bits of the limits that are crossed by c
 unfoldable pub raised : List ℕ → List Bool → List ℕ
 raised s c = map (λ j. marked c j limits (getD s j 0)) (0 ∷ 1 ∷ 2 ∷ 3 ∷ [])
 
@@ -64,6 +77,7 @@ offWhileLasts c r =
 abbrev pub shutDown : Page → Bool
 shutDown p = staysOff (presentCauses p) (p .responses)
 
--- A page brought up to date with its present causes: their bits are set, and it is tripped where one of them shuts down (data sheet 6.4, 7.1).
+-- A page brought up to date with its present causes and warnings: their bits are set, and it is tripped where a cause shuts down (data sheet
+-- 6.4, 6.14, 7.1).
 unfoldable pub settled : Page → Page
-settled p = withTripped (withStatus p (raised (p .status) (presentCauses p))) (p .tripped || shutDown p)
+settled p = withTripped (withStatus p (raised (p .status) (presentLimits p))) (p .tripped || shutDown p)

@@ -1,4 +1,4 @@
--- Single bits of a page's status registers, and the causes that they have.
+-- Single bits of a page's status registers, and the causes and warnings that they have.
 -- Assumes nothing.
 use Prim.Native.Nat.{ℕ}
 use mathlib.Core.Bool.{Bool, _&&_}
@@ -14,14 +14,14 @@ use Rattle.page.specs.Causes.{present}
 abbrev pub statusBit : Page → ℕ → ℕ → Bool
 statusBit p j k = bit (getD (p .status) j 0) k
 
--- the register of cause n and its bit there
+-- the register of limit n, a cause's or a warning's, and its bit there
 abbrev pub registerOf : ℕ → ℕ
 registerOf n = register (limitOf n)
 
 abbrev pub bitOf : ℕ → ℕ
 bitOf n = limitOf n .bitNumber
 
--- some present cause of the page has bit k of register j
+-- some present cause or warning of the page has bit k of register j
 unfoldable pub caused : Page → ℕ → ℕ → Bool
 caused p j k = anyOf (λ l. present p (l .number) && (eqb (register l) j && eqb (l .bitNumber) k)) limits
 

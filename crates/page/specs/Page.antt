@@ -6,7 +6,7 @@ use mathlib.Core.List.{List, [], _∷_, map}
 use Rattle.cause.specs.Causes.{limits, responses}
 use Rattle.page.specs.declared.Page.{Page}
 
--- Data sheet 1.4 and 3.1: the output off, the limits and responses as the table of causes has them, nothing measured, no bit set, not
+-- Data sheet 1.4 and 3.1: the output off, the limits and responses as the table of causes and warnings has them, nothing measured, no bit set, not
 -- tripped.
 unfoldable pub powerOnPage : Page
 powerOnPage = record {

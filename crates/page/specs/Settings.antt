@@ -33,7 +33,7 @@ unfoldable pub setVoutCommand : Page → ℕ → Page
 setVoutCommand p w = withCommand p w
 
 unfoldable pub setLimit : Page → ℕ → ℕ → Page
-setLimit p k w = withLimits p (set (p .limits) (k % 6) w)
+setLimit p k w = withLimits p (set (p .limits) (k % 11) w)
 
 unfoldable pub setResponse : Page → ℕ → ℕ → Page
 setResponse p k x = withResponses p (set (p .responses) (k % 6) x)

@@ -1,12 +1,13 @@
-// Which causes are present, and what they leave: latched status bits, and the trip. The table of causes is written out here, for speed.
+// Which causes and warnings are present, and what they leave: latched status bits, and the trip. Their table is written out here, for speed.
 ghost use mathlib.Core.Path.{_≡_};
 ghost use mathlib.Core.Bool.{_&&_};
 ghost use Rattle.linear11.specs.Linear11.{linearOrder, wordOrder};
 ghost use Rattle.cause.specs.Causes.{above, below};
-ghost use Rattle.page.specs.Causes.{onSide, presentCauses, weigh, raised, staysOff, offWhileLasts, settled};
+ghost use Rattle.page.specs.Causes.{onSide, presentCauses, presentWarnings, presentLimits, weigh, raised, staysOff, offWhileLasts, settled};
 use super::Page;
+use linear11::Order;
 
-// The measured word's value is strictly above the limit's. Early returns, here and below: six comparisons without them become slow vector code.
+// The measured word's value is strictly above the limit's. Early returns, here and below: without them the comparisons become slow vector code.
 fn above(measured: bool, word: u16, limit: u16) -> bool
     ensures { λ r. ⌜ r ≡ (measured && onSide above (linearOrder word limit)) ⌝ }
 {
@@ -14,7 +15,11 @@ fn above(measured: bool, word: u16, limit: u16) -> bool
         return false;
     }
     let order = linear11::compare_linear11(word, limit);
-    linear11::is_above(order)
+    match order {
+        Order::Below => false,
+        Order::Equal => false, // at its limit
+        Order::Above => true,
+    }
 }
 
 // The measured word's value is strictly below the limit's.
@@ -25,7 +30,11 @@ fn below(measured: bool, word: u16, limit: u16) -> bool
         return false;
     }
     let order = linear11::compare_linear11(word, limit);
-    linear11::is_below(order)
+    match order {
+        Order::Below => true,
+        Order::Equal => false,
+        Order::Above => false,
+    }
 }
 
 // The same for VOUT words, which are unsigned.
@@ -36,7 +45,11 @@ fn above_unsigned(measured: bool, word: u16, limit: u16) -> bool
         return false;
     }
     let order = linear11::compare_unsigned(word, limit);
-    linear11::is_above(order)
+    match order {
+        Order::Below => false,
+        Order::Equal => false,
+        Order::Above => true,
+    }
 }
 
 // The six causes, each present or not.
@@ -53,6 +66,19 @@ pub fn present_causes(p: Page) -> [bool; 6]
     ]
 }
 
+// The five warnings, each present or not.
+fn present_warnings(p: Page) -> [bool; 5]
+    ensures { λ r. ⌜ r ≡ presentWarnings p ⌝ }
+{
+    [
+        above_unsigned(p.measured[0], p.words[0], p.limits[6]),
+        above(p.measured[1], p.words[1], p.limits[7]),
+        above(p.measured[3], p.words[3], p.limits[8]),
+        above(p.measured[2], p.words[2], p.limits[9]),
+        below(p.measured[2], p.words[2], p.limits[10]),
+    ]
+}
+
 // A register's bit, or none.
 pub fn weigh(set: bool, mask: u8) -> u8
     ensures { λ r. ⌜ r ≡ weigh set mask ⌝ }
@@ -60,15 +86,21 @@ pub fn weigh(set: bool, mask: u8) -> u8
     if set { mask } else { 0 }
 }
 
-// The four status registers with the bits of the present causes set.
-fn raised(status: [u8; 4], present: [bool; 6]) -> [u8; 4]
-    ensures { λ r. ⌜ r ≡ raised status present ⌝ }
+// The four status registers of p with the bits of its present faults and warnings set.
+fn raised(p: Page, fault: [bool; 6], warning: [bool; 5]) -> [u8; 4]
+    requires { ⌜ (fault ≡ presentCauses p) × (warning ≡ presentWarnings p) ⌝ }
+    ensures { λ r. ⌜ r ≡ raised (p .status) (presentLimits p) ⌝ }
 {
+    let s = p.status;
     [
-        status[0] | weigh(present[0], 128),
-        status[1] | weigh(present[1], 128),
-        status[2] | weigh(present[4], 128) | weigh(present[5], 16),
-        status[3] | weigh(present[2], 128) | weigh(present[3], 16),
+        s[0] | weigh(fault[0], 128) | weigh(warning[0], 64),
+        s[1] | weigh(fault[1], 128) | weigh(warning[1], 32),
+        s[2]
+            | weigh(fault[4], 128)
+            | weigh(fault[5], 16)
+            | weigh(warning[3], 64)
+            | weigh(warning[4], 32),
+        s[3] | weigh(fault[2], 128) | weigh(fault[3], 16) | weigh(warning[2], 64),
     ]
 }
 
@@ -95,15 +127,15 @@ pub fn off_while_lasts(present: [bool; 6], responses: [u8; 6]) -> bool
         | (present[5] & (responses[5] == 0xC0))
 }
 
-// The page brought up to date with its present causes, at the end of a call that touched it.
+// The page brought up to date with its present causes and warnings, at the end of a call that touched it. Warnings never trip it.
 pub fn settled(p: Page) -> Page
     ensures { λ r. ⌜ r ≡ settled p ⌝ }
 {
-    let present = present_causes(p);
-    let status = p.status;
+    let fault = present_causes(p);
+    let warning = present_warnings(p);
     let responses = p.responses;
-    let registers = raised(status, present);
-    let off = stays_off(present, responses);
+    let registers = raised(p, fault, warning);
+    let off = stays_off(fault, responses);
     let mut q = p;
     q.status = registers;
     q.tripped = p.tripped | off;

@@ -51,7 +51,7 @@ pub fn set_vout_command(p: Page, word: u16) -> Page
 pub fn set_limit(p: Page, k: u8, word: u16) -> Page
     ensures { λ r. ⌜ r ≡ setLimit p k word ⌝ }
 {
-    let i = (k % 6) as usize;
+    let i = (k % 11) as usize;
     let mut q = p;
     q.limits[i] = word;
     q

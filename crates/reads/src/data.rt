@@ -60,9 +60,9 @@ fn energy(a: Account) -> Stream
 }
 
 fn limit(p: Page, k: u8) -> Stream
-    ensures { λ r. ⌜ (r ≡ stream (wordBytes (getD (p .limits) (k % 6) 0))) × (r .length < 8) ⌝ }
+    ensures { λ r. ⌜ (r ≡ stream (wordBytes (getD (p .limits) (k % 11) 0))) × (r .length < 8) ⌝ }
 {
-    let i = (k % 6) as usize;
+    let i = (k % 11) as usize;
     word(p.limits[i])
 }
 

@@ -6,7 +6,7 @@ use mathlib.Core.Path.{_≡_, refl}
 use mathlib.Core.Bool.{Bool, true, false, cond}
 use mathlib.Core.List.{List, [], _∷_, _++_, map}
 use lib.IntN.{ℤ, pos, negℤ}
-use Rattle.linear11.specs.Linear11.{signedOf, mantissa, exponent, scaledOf, wordOrder, isAbove, orderOf, linearOrder, isBelow}
+use Rattle.linear11.specs.Linear11.{signedOf, mantissa, exponent, scaledOf, wordOrder, orderOf, linearOrder}
 use Rattle.pec.specs.Pec.{pec, pecFrom, pecByte, pecBit}
 use Rattle.account.specs.declared.Account.{Account}
 use Rattle.account.specs.Account.{account, accountValid, added, sampled, energyReading, einBytes, accountOf}
@@ -15,7 +15,7 @@ use Rattle.totalizer.specs.Totalizer.{totalizer, replyCheck, replyAnswer, nextE
 use Rattle.totalizer.specs.Totalizer as totalizing
 use Rattle.energy.specs.Reply.{energyReply}
 use Rattle.page.specs.Page.{powerOnPage}
-use Rattle.cause.specs.Causes.{causes}
+use Rattle.cause.specs.Causes.{causes, warnings}
 use Rattle.page.specs.Settings.{setMeasurement}
 use Rattle.page.specs.Causes.{orderBy, onSide, crossed, presentCauses, present}
 
@@ -54,7 +54,7 @@ table =
 -- every row agrees
 pub sheet : map (λ row. row .0) table ≡ map (λ row. row .1) table
 unfolding
-    scaledOf mantissa exponent signedOf wordOrder isAbove orderOf linearOrder isBelow pec pecFrom pecByte pecBit accountValid added sampled
+    scaledOf mantissa exponent signedOf wordOrder orderOf linearOrder pec pecFrom pecByte pecBit accountValid added sampled
     energyReading einBytes accountOf replyCheck replyAnswer nextEnergy nextSamples booked totalize totalizing.added energyReply powerOnPage
-    setMeasurement orderBy onSide crossed presentCauses causes
+    setMeasurement orderBy onSide crossed presentCauses causes warnings
 sheet = refl

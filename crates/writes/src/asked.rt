@@ -8,7 +8,7 @@ use command::Command;
 pub enum Setting {
     Operation(u8),
     VoutCommand(u16),
-    // a fault limit and its response, by the number of the cause
+    // a limit by its number; a response by the number of its cause
     Limit(u8, u16),
     Response(u8, u8),
 }

@@ -5,7 +5,7 @@
 //! status bits.
 
 use reference::command::{self, Command};
-use reference::device::{Page, ALL_PAGES, TEMPERATURE, VIN, VOUT};
+use reference::device::{Page, ALL_PAGES, IOUT, TEMPERATURE, VIN, VOUT};
 use reference::frame::{self, Shelf};
 use reference::linear11;
 use reference::pec::pec;
@@ -57,13 +57,30 @@ const ENDS: [u16; 16] = [
     0x03FF, 0xFFFF, 0x7FFF, 0xFC00,
 ];
 
-/// Limit codes in the order of the causes, with their quantities.
-const LIMITS: [u8; 6] = [0x40, 0x46, 0x4F, 0x53, 0x55, 0x59];
-const QUANTITIES: [usize; 6] = [0, 1, 3, 3, 2, 2];
+/// Limit codes with their quantities: of the six causes, then of the five warnings.
+const LIMITS: [(u8, usize); 11] = [
+    (0x40, VOUT),
+    (0x46, IOUT),
+    (0x4F, TEMPERATURE),
+    (0x53, TEMPERATURE),
+    (0x55, VIN),
+    (0x59, VIN),
+    (0x42, VOUT),
+    (0x4A, IOUT),
+    (0x51, TEMPERATURE),
+    (0x57, VIN),
+    (0x58, VIN),
+];
 const RESPONSES: [u8; 6] = [0x41, 0x47, 0x50, 0x54, 0x56, 0x5A];
 
 /// Words with no cause at the power-on limits: 1.2 V, 2 A, 12 V, 25 degrees.
 const CALM: [u16; 4] = [0x2666, 0xD080, 0xD300, 0xE8C8];
+
+/// The limits of a page in that order.
+fn limits(page: &Page) -> [u16; 11] {
+    let both = [&page.limits[..], &page.warn_limits[..]].concat();
+    std::array::from_fn(|index| both[index])
+}
 
 struct Generator {
     random: Random,
@@ -188,13 +205,10 @@ impl Generator {
 
     /// A word to measure on a page.
     fn measured_word(&mut self, page: usize, quantity: usize) -> u16 {
-        let causes: &[usize] = match quantity {
-            VOUT => &[0],
-            VIN => &[4, 5],
-            TEMPERATURE => &[2, 3],
-            _ => &[1],
-        };
-        let limit = self.model.pages[page].limits[self.random.pick(causes)];
+        let mut limits = limits(&self.model.pages[page]).to_vec();
+        let mut quantities = LIMITS.iter().map(|limit| limit.1);
+        limits.retain(|_| quantities.next() == Some(quantity));
+        let limit = self.random.pick(&limits);
         match self.random.below(20) {
             0..=12 => self.near(quantity, limit),
             13..=16 => CALM[quantity],
@@ -204,14 +218,14 @@ impl Generator {
     }
 
     /// A limit to write on the selected page.
-    fn limit_word(&mut self, cause: usize) -> u16 {
+    fn limit_word(&mut self, index: usize) -> u16 {
         let page = self.some_page();
-        let quantity = QUANTITIES[cause];
+        let quantity = LIMITS[index].1;
         let latest = page.readings[quantity].word;
         match self.random.below(20) {
             0..=9 => self.near(quantity, latest),
-            10..=12 => self.near(quantity, page.limits[cause]),
-            13..=16 => Page::power_on().limits[cause],
+            10..=12 => self.near(quantity, limits(&page)[index]),
+            13..=16 => limits(&Page::power_on())[index],
             17 | 18 => self.random.pick(&ENDS),
             _ => self.random.word(),
         }
@@ -256,8 +270,8 @@ impl Generator {
     /// Data of the length in the table, valid more often than not.
     fn write_data(&mut self, code: u8) -> Vec<u8> {
         let valid = self.random.percent(88);
-        if let Some(cause) = LIMITS.iter().position(|&limit| limit == code) {
-            return self.limit_word(cause).to_le_bytes().to_vec();
+        if let Some(index) = LIMITS.iter().position(|&limit| limit.0 == code) {
+            return self.limit_word(index).to_le_bytes().to_vec();
         }
         if RESPONSES.contains(&code) && valid {
             return vec![self.random.pick(&[0x00, 0x80, 0xC0, 0xC0])];
@@ -415,9 +429,9 @@ impl Generator {
     /// Takes all faults from one page or from all, gives new responses and switches on.
     fn calm_page(&mut self) -> Vec<u8> {
         let page = self.page_data();
-        let defaults = Page::power_on().limits;
+        let defaults = limits(&Page::power_on());
         self.push_write(&[0x00, page]);
-        for (code, limit) in LIMITS.into_iter().zip(defaults) {
+        for ((code, _), limit) in LIMITS.into_iter().zip(defaults) {
             let [low, high] = limit.to_le_bytes();
             self.push_write(&[code, low, high]);
         }

@@ -58,7 +58,7 @@ pub fn device(change: impl FnOnce(&mut Device)) -> Device {
 }
 
 /// Codes that are written, with their data lengths (data sheet 3.1).
-pub const WRITTEN: [(u8, usize); 22] = [
+pub const WRITTEN: [(u8, usize); 27] = [
     (0x00, 1),
     (0x01, 1),
     (0x03, 0),
@@ -70,6 +70,11 @@ pub const WRITTEN: [(u8, usize); 22] = [
     (0x53, 2),
     (0x55, 2),
     (0x59, 2),
+    (0x42, 2),
+    (0x4A, 2),
+    (0x51, 2),
+    (0x57, 2),
+    (0x58, 2),
     (0x41, 1),
     (0x47, 1),
     (0x50, 1),
@@ -84,7 +89,7 @@ pub const WRITTEN: [(u8, usize); 22] = [
 ];
 
 /// Codes marked r with their data lengths.
-pub const READABLE: [(u8, usize); 31] = [
+pub const READABLE: [(u8, usize); 36] = [
     (0x00, 1),
     (0x01, 1),
     (0x10, 1),
@@ -97,6 +102,11 @@ pub const READABLE: [(u8, usize); 31] = [
     (0x53, 2),
     (0x55, 2),
     (0x59, 2),
+    (0x42, 2),
+    (0x4A, 2),
+    (0x51, 2),
+    (0x57, 2),
+    (0x58, 2),
     (0x41, 1),
     (0x47, 1),
     (0x50, 1),

@@ -55,7 +55,27 @@ returns-12 c = search calls depth 30 fits 20000
 
 returns-13 : tie.Need-returns-13
 unfolding faultOf
-returns-13 c = search branches depth 30 fits 20000
+returns-13 c = search calls depth 30 fits 20000
+
+returns-14 : tie.Need-returns-14
+unfolding faultOf
+returns-14 c = search calls depth 30 fits 20000
+
+returns-15 : tie.Need-returns-15
+unfolding faultOf
+returns-15 c = search calls depth 30 fits 20000
+
+returns-16 : tie.Need-returns-16
+unfolding faultOf
+returns-16 c = search calls depth 30 fits 20000
+
+returns-17 : tie.Need-returns-17
+unfolding faultOf
+returns-17 c = search calls depth 30 fits 20000
+
+returns-18 : tie.Need-returns-18
+unfolding faultOf
+returns-18 c = search branches depth 30 fits 20000
 
 pub fault-of-spec : {M : Type 1} → statement M
 fault-of-spec =
@@ -73,4 +93,9 @@ fault-of-spec =
     returns-10
     returns-11
     returns-12
-    returns-13)
+    returns-13
+    returns-14
+    returns-15
+    returns-16
+    returns-17
+    returns-18)

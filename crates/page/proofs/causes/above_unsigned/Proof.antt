@@ -1,8 +1,9 @@
 -- `page::causes::above_unsigned` meets its contract.
 -- Assumes nothing.
-use borrow.Author.Needs.{needs}
 use borrow.Author.Tests.{not-true, not-false}
 use Rattle.page.specs.Causes.{onSide}
+use mathlib.Core.Path.{sym}
+use borrow.Author.Needs.{needs}
 use Rattle.page.proofs.causes.above_unsigned.Statement.{statement}
 use Rattle.page.proofs.causes.above_unsigned.Tie as tie
 
@@ -12,13 +13,36 @@ returns c = simp (not-true (c .before .args .measured) (c .if1 .taken))
 compare-unsigned-requires : tie.Need-compare-unsigned-requires
 compare-unsigned-requires c κs = search needs
 
-is-above-requires : tie.Need-is-above-requires
-is-above-requires c κs = search needs
+enum-told : tie.Need-enum-told
+enum-told c = search needs
+
+enum-told-2 : tie.Need-enum-told-2
+enum-told-2 c = search needs
+
+enum-told-3 : tie.Need-enum-told-3
+enum-told-3 c = search needs
 
 returns-2 : tie.Need-returns-2
 unfolding onSide
-returns-2 c = simp (not-false (c .before .before .before .args .measured) (c .before .before .if1 .left), c .is-above .ensures, c .before .compare-unsigned .ensures)
+returns-2 c = simp (not-false (c .before .before .before .before .args .measured) (c .before .before .before .if1 .left), sym (c .before .before .compare-unsigned .ensures), c .enum-told .given .1)
+
+returns-3 : tie.Need-returns-3
+unfolding onSide
+returns-3 c = simp (not-false (c .before .before .before .before .args .measured) (c .before .before .before .if1 .left), sym (c .before .before .compare-unsigned .ensures), c .enum-told2 .given .1)
+
+returns-4 : tie.Need-returns-4
+unfolding onSide
+returns-4 c = simp (not-false (c .before .before .before .before .args .measured) (c .before .before .before .if1 .left), sym (c .before .before .compare-unsigned .ensures), c .enum-told3 .given .1)
 
 pub above-unsigned-spec : {M : Type 1} → statement M
 above-unsigned-spec =
-    tie.close (tie.spec returns compare-unsigned-requires is-above-requires returns-2)
+    tie.close
+    (tie.spec
+    returns
+    compare-unsigned-requires
+    enum-told
+    enum-told-2
+    enum-told-3
+    returns-2
+    returns-3
+    returns-4)

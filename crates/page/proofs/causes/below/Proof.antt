@@ -1,8 +1,9 @@
 -- `page::causes::below` meets its contract.
 -- Assumes nothing.
-use borrow.Author.Needs.{needs}
 use borrow.Author.Tests.{not-true, not-false}
 use Rattle.page.specs.Causes.{onSide}
+use mathlib.Core.Path.{sym}
+use borrow.Author.Needs.{needs}
 use Rattle.page.proofs.causes.below.Statement.{statement}
 use Rattle.page.proofs.causes.below.Tie as tie
 
@@ -12,12 +13,36 @@ returns c = simp (not-true (c .before .args .measured) (c .if1 .taken))
 compare-linear11-requires : tie.Need-compare-linear11-requires
 compare-linear11-requires c κs = search needs
 
-is-below-requires : tie.Need-is-below-requires
-is-below-requires c κs = search needs
+enum-told : tie.Need-enum-told
+enum-told c = search needs
+
+enum-told-2 : tie.Need-enum-told-2
+enum-told-2 c = search needs
+
+enum-told-3 : tie.Need-enum-told-3
+enum-told-3 c = search needs
 
 returns-2 : tie.Need-returns-2
 unfolding onSide
-returns-2 c = simp (not-false (c .before .before .before .args .measured) (c .before .before .if1 .left), c .is-below .ensures, c .before .compare-linear11 .ensures)
+returns-2 c = simp (not-false (c .before .before .before .before .args .measured) (c .before .before .before .if1 .left), sym (c .before .before .compare-linear11 .ensures), c .enum-told .given .1)
+
+returns-3 : tie.Need-returns-3
+unfolding onSide
+returns-3 c = simp (not-false (c .before .before .before .before .args .measured) (c .before .before .before .if1 .left), sym (c .before .before .compare-linear11 .ensures), c .enum-told2 .given .1)
+
+returns-4 : tie.Need-returns-4
+unfolding onSide
+returns-4 c = simp (not-false (c .before .before .before .before .args .measured) (c .before .before .before .if1 .left), sym (c .before .before .compare-linear11 .ensures), c .enum-told3 .given .1)
 
 pub below-spec : {M : Type 1} → statement M
-below-spec = tie.close (tie.spec returns compare-linear11-requires is-below-requires returns-2)
+below-spec =
+    tie.close
+    (tie.spec
+    returns
+    compare-linear11-requires
+    enum-told
+    enum-told-2
+    enum-told-3
+    returns-2
+    returns-3
+    returns-4)

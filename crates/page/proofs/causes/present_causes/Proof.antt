@@ -1,6 +1,6 @@
 -- `page::causes::present_causes` meets its contract.
 -- Assumes nothing.
-use Rattle.cause.specs.Causes.{causes}
+use Rattle.cause.specs.Causes.{causes, warnings}
 use Rattle.page.specs.Causes.{presentCauses, crossed, orderBy}
 use borrow.Author.Needs.{needs}
 use Rattle.page.proofs.causes.present_causes.Statement.{statement}
@@ -79,7 +79,7 @@ below-requires-2 : tie.Need-below-requires-2
 below-requires-2 c κs = search needs
 
 returns : tie.Need-returns
-unfolding presentCauses crossed orderBy causes
+unfolding presentCauses crossed orderBy causes warnings
 returns c = simp (c .below2 .ensures, c .before .before .before .before .above3 .ensures, c .before .before .before .before .before .before .before .before .below .ensures, c .before .before .before .before .before .before .before .before .before .before .before .before .above2 .ensures, c .before .before .before .before .before .before .before .before .before .before .before .before .before .before .before .before .above .ensures, c .before .before .before .before .before .before .before .before .before .before .before .before .before .before .before .before .before .before .before .before .above-unsigned .ensures)
 
 pub present-causes-spec : {M : Type 1} → statement M

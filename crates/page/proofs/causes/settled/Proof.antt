@@ -8,6 +8,9 @@ use Rattle.page.proofs.causes.settled.Tie as tie
 present-causes-requires : tie.Need-present-causes-requires
 present-causes-requires c κs = search needs
 
+present-warnings-requires : tie.Need-present-warnings-requires
+present-warnings-requires c κs = search needs
+
 raised-requires : tie.Need-raised-requires
 raised-requires c κs = search needs
 
@@ -20,4 +23,4 @@ returns c = cc
 
 pub settled-spec : {M : Type 1} → statement M
 settled-spec =
-    tie.close (tie.spec present-causes-requires raised-requires stays-off-requires returns)
+    tie.close (tie.spec present-causes-requires present-warnings-requires raised-requires stays-off-requires returns)

@@ -1,7 +1,7 @@
 -- `page::causes::stays_off` meets its contract.
 -- Assumes nothing.
 use mathlib.Core.Bool.{or-false, or-assoc}
-use Rattle.cause.specs.Causes.{causes}
+use Rattle.cause.specs.Causes.{causes, warnings}
 use Rattle.page.specs.Causes.{staysOff}
 use borrow.Author.Needs.{needs}
 use Rattle.page.proofs.causes.stays_off.Statement.{statement}
@@ -44,7 +44,7 @@ array-read-result-12 : tie.Need-array-read-result-12
 array-read-result-12 c = search needs
 
 returns : tie.Need-returns
-unfolding staysOff causes
+unfolding staysOff causes warnings
 returns c = simp (or-false, or-assoc)
 
 pub stays-off-spec : {M : Type 1} → statement M
