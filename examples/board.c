@@ -19,6 +19,13 @@ static const struct line {
     {"OPERATION off", {.kind = BOARD_WRITE, .bytes = {0xC0, 0x01, 0x00}, .length = 3}, 0},
     {"OPERATION on", {.kind = BOARD_WRITE, .bytes = {0xC0, 0x01, 0x80}, .length = 3}, 0},
     {"CLEAR_FAULTS", {.kind = BOARD_WRITE, .bytes = {0xC0, 0x03}, .length = 2}, 0},
+    {"response: two retries, delay 1", {.kind = BOARD_WRITE, .bytes = {0xC0, 0x41, 0x91}, .length = 3}, 0},
+    {"VOUT over its limit", {.kind = BOARD_MEASUREMENT, .page = 0, .quantity = 0, .word = 0x2A3E}, 0},
+    {"tick", {.kind = BOARD_TICK}, 0},
+    {"tick", {.kind = BOARD_TICK}, 0},
+    {"VOUT 1.2 V", {.kind = BOARD_MEASUREMENT, .page = 0, .quantity = 0, .word = 0x2666}, 0},
+    {"tick", {.kind = BOARD_TICK}, 0},
+    {"tick", {.kind = BOARD_TICK}, 0},
     {"read STATUS_WORD, 20 bytes", {.kind = BOARD_READ, .bytes = {0xC0, 0x79, 0xC1}, .length = 3}, 20},
 };
 

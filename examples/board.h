@@ -12,6 +12,7 @@ typedef enum board_kind {
     BOARD_ALERT_RESPONSE, /* the alert response address is in; the host waits for an address */
     BOARD_MEASUREMENT,    /* a converter has a word of a quantity on a page */
     BOARD_SAMPLE,         /* the power meter has a sample, in word */
+    BOARD_TICK,           /* a unit of delay has passed */
 } board_kind;
 
 typedef struct board_event {

@@ -27,6 +27,7 @@ static tongsorrel_done call(tongsorrel_device device, const board_event *event) 
     case BOARD_WRITE: return tongsorrel_write(device, event->bytes, event->length);
     case BOARD_MEASUREMENT: return tongsorrel_measure(device, event->page, event->quantity, event->word);
     case BOARD_SAMPLE: return tongsorrel_sample(device, event->word);
+    case BOARD_TICK: return tongsorrel_tick(device);
     default: return answer(device, event);
     }
 }

@@ -11,7 +11,7 @@
  * The functions keep nothing between calls and share nothing, so they may run in any number of threads and in signal handlers.
  *
  * Stack: a call takes at most TONGSORREL_STACK bytes from its return address down. The caller's own copies come on top: a device handed over
- * has 412 bytes, a result 416. tests/stack.c measures it on a painted stack, over every code, length and answer, and fails if it is more. */
+ * has 460 bytes, a result 464. tests/stack.c measures it on a painted stack, over every code, length and answer, and fails if it is more. */
 #ifndef TONGSORREL_H
 #define TONGSORREL_H
 
@@ -23,7 +23,7 @@
 extern "C" {
 #endif
 
-#define TONGSORREL_STACK 1536
+#define TONGSORREL_STACK 2048
 
 /* ---- names */
 
@@ -172,12 +172,13 @@ typedef struct tongsorrel_unpaged {
     tongsorrel_account energy;
 } tongsorrel_unpaged;
 
-/* One supply. limits by cause and warning, responses by cause; words (the latest, where measured says so), measured and status by quantity. */
+/* One supply. limits by cause and warning, responses and machines by cause (the machine that tries again, a byte of 0 to 64: 7.13); words (the latest, where measured says so), measured and status by quantity. */
 typedef struct tongsorrel_page {
     uint8_t operation;
     uint16_t vout_command;
     uint16_t limits[TONGSORREL_LIMITS];
     uint8_t responses[TONGSORREL_CAUSES];
+    uint8_t machines[TONGSORREL_CAUSES];
     uint16_t words[TONGSORREL_QUANTITIES];
     bool measured[TONGSORREL_QUANTITIES];
     uint8_t status[TONGSORREL_QUANTITIES];
@@ -210,11 +211,14 @@ tongsorrel_done tongsorrel_measure(tongsorrel_device device, uint8_t page, uint8
 /* A power sample of 0 to 32767 for the energy account (9.2). Answers 0, 13, 15. */
 tongsorrel_done tongsorrel_sample(tongsorrel_device device, uint16_t sample);
 
+/* One tick, a delay unit, for every page: the machines that try again go on (7.9). Answers 0, 15. */
+tongsorrel_done tongsorrel_tick(tongsorrel_device device);
+
 /* An alert response with a reply buffer of n bytes, all of which are written: C0h where it is answered, FFh throughout otherwise (8.4, 8.5).
  * Answers 0, 2, 14, 15. */
 tongsorrel_done tongsorrel_alert_response(tongsorrel_device device, uint8_t *reply, size_t n);
 
-/* Whether the firmware keeps the supply of a page switched on (7.6, 7.7). A page over 7 is off. It changes after a write or a measurement. */
+/* Whether the firmware keeps the supply of a page switched on (7.6, 7.7). A page over 7 is off. It changes after a write, a measurement or a tick. */
 bool tongsorrel_supplies(tongsorrel_device device, uint8_t page);
 
 /* ---- the device over lent records: liblent.a */
@@ -249,6 +253,9 @@ tongsorrel_outcome tongsorrel_lent_measure(tongsorrel_unpaged unpaged, tongsorre
 
 /* As tongsorrel_sample: changes no record. */
 tongsorrel_outcome tongsorrel_lent_sample(tongsorrel_unpaged unpaged, const tongsorrel_page *pages, size_t number, uint16_t sample);
+
+/* As tongsorrel_tick: may change any record. */
+tongsorrel_outcome tongsorrel_lent_tick(tongsorrel_unpaged unpaged, tongsorrel_page *pages, size_t number);
 
 /* As tongsorrel_alert_response: changes no record. */
 tongsorrel_outcome tongsorrel_lent_alert_response(tongsorrel_unpaged unpaged, const tongsorrel_page *pages, size_t number, uint8_t *reply, size_t n);
@@ -304,21 +311,22 @@ TONGSORREL_AT(tongsorrel_unpaged, protect, 1);
 TONGSORREL_AT(tongsorrel_unpaged, cml, 2);
 TONGSORREL_AT(tongsorrel_unpaged, alert, 3);
 TONGSORREL_AT(tongsorrel_unpaged, energy, 4);
-TONGSORREL_SIZE(tongsorrel_page, 50);
+TONGSORREL_SIZE(tongsorrel_page, 56);
 TONGSORREL_AT(tongsorrel_page, operation, 0);
 TONGSORREL_AT(tongsorrel_page, vout_command, 2);
 TONGSORREL_AT(tongsorrel_page, limits, 4);
 TONGSORREL_AT(tongsorrel_page, responses, 26);
-TONGSORREL_AT(tongsorrel_page, words, 32);
-TONGSORREL_AT(tongsorrel_page, measured, 40);
-TONGSORREL_AT(tongsorrel_page, status, 44);
-TONGSORREL_AT(tongsorrel_page, tripped, 48);
-TONGSORREL_SIZE(tongsorrel_device, 412);
+TONGSORREL_AT(tongsorrel_page, machines, 32);
+TONGSORREL_AT(tongsorrel_page, words, 38);
+TONGSORREL_AT(tongsorrel_page, measured, 46);
+TONGSORREL_AT(tongsorrel_page, status, 50);
+TONGSORREL_AT(tongsorrel_page, tripped, 54);
+TONGSORREL_SIZE(tongsorrel_device, 460);
 TONGSORREL_AT(tongsorrel_device, unpaged, 0);
 TONGSORREL_AT(tongsorrel_device, pages, 12);
-TONGSORREL_SIZE(tongsorrel_done, 416);
+TONGSORREL_SIZE(tongsorrel_done, 464);
 TONGSORREL_AT(tongsorrel_done, device, 0);
-TONGSORREL_AT(tongsorrel_done, answer, 412);
+TONGSORREL_AT(tongsorrel_done, answer, 460);
 TONGSORREL_SIZE(tongsorrel_outcome, 16);
 TONGSORREL_AT(tongsorrel_outcome, unpaged, 0);
 TONGSORREL_AT(tongsorrel_outcome, answer, 12);

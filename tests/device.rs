@@ -25,10 +25,14 @@ fn supplies() {
     let mut random = Random::new(12);
     let mut on = 0;
     for _ in 0..CALLS / 100 {
-        let device = match random.below(4) {
+        let mut device = match random.below(4) {
             0 => states::anything(&mut random),
             _ => states::valid(&mut random),
         };
+        device
+            .pages
+            .iter_mut()
+            .for_each(states::without_iout_oc_machine);
         let pages = mirror::to_reference(&device).pages;
         for page in 0..=u8::MAX {
             let expected = pages.get(usize::from(page)).is_some_and(|p| p.supplies());
@@ -69,6 +73,7 @@ fn random_calls_on_random_states() {
         &[0, 12, 15],
         &[0, 13, 15],
         &[0, 2, 14, 15],
+        &[0, 15],
     ]);
     println!(
         "  device: {CALLS} calls on random states agree in every field, answer and reply byte"
@@ -97,6 +102,7 @@ fn random_runs_from_power_on() {
         &[0, 12],
         &[0, 13],
         &[0, 2, 14],
+        &[0],
     ]);
     println!(
         "  device: {} runs of {RUN} calls from power-on agree",

@@ -55,6 +55,8 @@ static tongsorrel_done call(tongsorrel_device device, const uint8_t *frame, size
         return tongsorrel_measure(device, frame[1], frame[2], word(frame + 3));
     case 4:
         return tongsorrel_sample(device, word(frame + 1));
+    case 7:
+        return tongsorrel_tick(device);
     default:
         *n = frame[1];
         return tongsorrel_alert_response(device, reply, *n);

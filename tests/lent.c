@@ -51,7 +51,7 @@ static bool only(size_t i) {
     return same;
 }
 
-/* All five calls get 15, and no byte of a record and nothing of the unpaged part changes. */
+/* All six calls get 15, and no byte of a record and nothing of the unpaged part changes. */
 static void refused(tongsorrel_unpaged unpaged, size_t number) {
     static const uint8_t write[] = {0xC0, 0x01, 0x80}, header[] = {0xC0, 0x79, 0xC1};
     uint8_t reply[3] = {0, 0, 0x55};
@@ -60,6 +60,7 @@ static void refused(tongsorrel_unpaged unpaged, size_t number) {
         tongsorrel_lent_write(unpaged, pages, number, write, sizeof write),
         tongsorrel_lent_measure(unpaged, pages, number, 0, TONGSORREL_VOUT, 0x7BFF),
         tongsorrel_lent_sample(unpaged, pages, number, 1000),
+        tongsorrel_lent_tick(unpaged, pages, number),
         tongsorrel_lent_alert_response(unpaged, pages, number, reply, 1),
         tongsorrel_lent_read(unpaged, pages, number, header, sizeof header, reply, 2),
     };
@@ -162,6 +163,7 @@ static tongsorrel_outcome call(tongsorrel_unpaged unpaged, size_t number, const 
     if (length >= 2 && frame[0] == 2) return tongsorrel_lent_read(unpaged, pages, number, frame + 2, length - 2, reply, *n);
     if (length == 5 && frame[0] == 3) return tongsorrel_lent_measure(unpaged, pages, number, frame[1], frame[2], word(frame + 3));
     if (length == 3 && frame[0] == 4) return tongsorrel_lent_sample(unpaged, pages, number, word(frame + 1));
+    if (length == 1 && frame[0] == 7) return tongsorrel_lent_tick(unpaged, pages, number);
     if (length == 2 && frame[0] == 5) return tongsorrel_lent_alert_response(unpaged, pages, number, reply, *n);
     return (tongsorrel_outcome){unpaged, 0xFF};
 }

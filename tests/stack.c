@@ -50,6 +50,11 @@ static tongsorrel_done no_sample(tongsorrel_device d, uint16_t s) {
     return (tongsorrel_done){d, 0};
 }
 
+static tongsorrel_done no_tick(tongsorrel_device d) {
+    NOTE();
+    return (tongsorrel_done){d, 0};
+}
+
 static tongsorrel_done no_alert(tongsorrel_device d, uint8_t *r, size_t k) {
     (void)r, (void)k;
     NOTE();
@@ -84,6 +89,12 @@ static tongsorrel_outcome no_lent_measure(tongsorrel_unpaged u, tongsorrel_page 
     return (tongsorrel_outcome){u, 0};
 }
 
+static tongsorrel_outcome no_lent_tick(tongsorrel_unpaged u, tongsorrel_page *p, size_t k) {
+    (void)p, (void)k;
+    NOTE();
+    return (tongsorrel_outcome){u, 0};
+}
+
 static bool no_supplies(tongsorrel_device d, uint8_t p) {
     (void)d, (void)p;
     NOTE();
@@ -106,6 +117,7 @@ static tongsorrel_done (*volatile write_call)(tongsorrel_device, const uint8_t *
 static tongsorrel_done (*volatile read_call)(tongsorrel_device, const uint8_t *, size_t, uint8_t *, size_t);
 static tongsorrel_done (*volatile measure_call)(tongsorrel_device, uint8_t, uint8_t, uint16_t);
 static tongsorrel_done (*volatile sample_call)(tongsorrel_device, uint16_t);
+static tongsorrel_done (*volatile tick_call)(tongsorrel_device);
 static tongsorrel_done (*volatile alert_call)(tongsorrel_device, uint8_t *, size_t);
 static bool (*volatile supplies_call)(tongsorrel_device, uint8_t);
 static tongsorrel_taken (*volatile take_call)(tongsorrel_totalizer, const uint8_t *, size_t);
@@ -116,6 +128,9 @@ static tongsorrel_outcome (*volatile lent_write_call)(tongsorrel_unpaged, tongso
 static tongsorrel_outcome (*volatile lent_read_call)(tongsorrel_unpaged, const tongsorrel_page *, size_t, const uint8_t *, size_t, uint8_t *, size_t);
 static tongsorrel_outcome (*volatile lent_measure_call)(tongsorrel_unpaged, tongsorrel_page *, size_t, uint8_t, uint8_t, uint16_t);
 
+static tongsorrel_outcome (*volatile lent_tick_call)(tongsorrel_unpaged, tongsorrel_page *, size_t);
+
+static void run_lent_tick(void) { outcome = lent_tick_call(device.unpaged, pages, TONGSORREL_MOST_PAGES); }
 static void run_lent_power_on(void) { outcome = lent_power_on_call(pages, TONGSORREL_MOST_PAGES); }
 static void run_lent_write(void) { outcome = lent_write_call(device.unpaged, pages, TONGSORREL_MOST_PAGES, bytes, length); }
 static void run_lent_read(void) { outcome = lent_read_call(device.unpaged, pages, TONGSORREL_MOST_PAGES, bytes, length, reply, n); }
@@ -124,6 +139,7 @@ static void run_write(void) { done = write_call(device, bytes, length); }
 static void run_read(void) { done = read_call(device, bytes, length, reply, n); }
 static void run_measure(void) { done = measure_call(device, number, second, word); }
 static void run_sample(void) { done = sample_call(device, word); }
+static void run_tick(void) { done = tick_call(device); }
 static void run_alert(void) { done = alert_call(device, reply, n); }
 static void run_supplies(void) { on = supplies_call(device, number); }
 static void run_take(void) { taken = take_call(totalizer, bytes, length); }
@@ -240,9 +256,12 @@ int main(void) {
         DEPTH(sample_call, no_sample, tongsorrel_sample, run_sample);
         word = 32768;
         DEPTH(sample_call, no_sample, tongsorrel_sample, run_sample);
+        lend(&states[s]);
+        DEPTH(tick_call, no_tick, tongsorrel_tick, run_tick);
+        DEPTH(lent_tick_call, no_lent_tick, tongsorrel_lent_tick, run_lent_tick);
         for (n = 0; n < 3; n++) DEPTH(alert_call, no_alert, tongsorrel_alert_response, run_alert);
     }
-    report("tongsorrel_sample, alert");
+    report("tongsorrel_sample, tick, lent_tick, alert");
     memset(bytes, 0, sizeof bytes);
     bytes[0] = 6;
     const uint8_t header[] = {TONGSORREL_ADDRESS_WRITE, TONGSORREL_CODE_READ_EIN, TONGSORREL_ADDRESS_READ};

@@ -8,6 +8,7 @@ use crate::lent::{self, Unpaged};
 
 pub use crate::account::Account;
 pub use crate::lent::{ALL_PAGES, READ_ADDRESS, WRITE_ADDRESS};
+pub use crate::machine::Machine;
 pub use crate::page::{
     Page, Reading, IOUT, IOUT_OC, OT, TEMPERATURE, UT, VIN, VIN_OV, VIN_UV, VOUT, VOUT_OV,
 };
@@ -96,5 +97,10 @@ impl Device {
     /// An alert response; the reply buffer is as long as the host clocks.
     pub fn alert_response(&mut self, reply: &mut [u8]) -> u8 {
         self.call(|unpaged, pages| lent::alert_response(unpaged, pages, reply))
+    }
+
+    /// A tick: one delay unit for every page.
+    pub fn tick(&mut self) -> u8 {
+        self.call(|unpaged, pages| lent::tick(unpaged, pages))
     }
 }

@@ -125,6 +125,7 @@ pub fn answer(shelf: &mut Shelf, line: &[u8], output: &mut impl Write) -> io::Re
             let reply = &mut reply[..usize::from(n)];
             put(output, lent::alert_response(unpaged, pages, reply), reply)
         }
+        [0x07] => put(output, lent::tick(unpaged, pages), &[]),
         _ => bad(output),
     }
 }

@@ -147,6 +147,15 @@ pub fn alert_response(unpaged: &mut Unpaged, pages: &[Page], reply: &mut [u8]) -
     0
 }
 
+/// A tick: one delay unit for every page.
+pub fn tick(unpaged: &Unpaged, pages: &mut [Page]) -> u8 {
+    if !valid(unpaged, pages) {
+        return 15;
+    }
+    pages.iter_mut().for_each(Page::tick);
+    0
+}
+
 /// Whether a page supplies; a page that is not among the records does not.
 pub fn supplies(pages: &[Page], page: usize) -> bool {
     pages.get(page).is_some_and(Page::supplies)

@@ -10,6 +10,7 @@ pub mod device;
 pub mod frame;
 pub mod lent;
 pub mod linear11;
+pub mod machine;
 pub mod page;
 pub mod pec;
 pub mod totalizer;

@@ -2,6 +2,7 @@
 //! and whether it supplies (data sheet, sections 6 and 7).
 
 use crate::linear11;
+use crate::machine::{self, Machine};
 use std::cmp::Ordering;
 
 // Quantities, which are also the places of the status registers 7Ah to 7Dh.
@@ -55,25 +56,14 @@ const WARNINGS: [Watch; 5] = [
     watch(0x58, VIN, Ordering::Less, 0x20),
 ];
 
-/// What a response byte asks for.
-#[derive(Clone, Copy, PartialEq, Eq)]
-enum Action {
-    GoOn,
-    ShutDown,
-    OffWhileFaultLasts,
-}
+/// The causes that have a machine, in the order of the machines. IOUT_OC has none.
+const MACHINED: [usize; 5] = [VOUT_OV, OT, UT, VIN_OV, VIN_UV];
 
-/// The action of a response byte, or none when it is not valid data.
-/// Response 47 has the action codes of section 10.5.2, the others those of 10.5.1.
-fn action(cause: usize, response: u8) -> Option<Action> {
-    match (cause, response) {
-        (_, 0x00) => Some(Action::GoOn),
-        (IOUT_OC, 0xC0) => Some(Action::ShutDown),
-        (IOUT_OC, _) => None,
-        (_, 0x80) => Some(Action::ShutDown),
-        (_, 0xC0) => Some(Action::OffWhileFaultLasts),
-        _ => None,
-    }
+/// Whether a byte is a response to a cause. That to IOUT_OC has the action codes of
+/// section 10.5.2, of which 00h (go on) and C0h (shut down, stay off) are taken; the
+/// others have all of section 10.5.1.
+fn response_valid(cause: usize, response: u8) -> bool {
+    cause != IOUT_OC || matches!(response, 0x00 | 0xC0)
 }
 
 /// The cause whose limit is at `code`.
@@ -125,6 +115,8 @@ pub struct Page {
     /// By quantity: STATUS_VOUT, STATUS_IOUT, STATUS_INPUT, STATUS_TEMPERATURE.
     pub status: [u8; 4],
     pub tripped: bool,
+    /// By cause that has one: VOUT_OV, OT, UT, VIN_OV, VIN_UV.
+    pub machines: [Machine; 5],
     /// By quantity: VOUT, IOUT, VIN, temperature.
     pub readings: [Reading; 4],
 }
@@ -139,14 +131,17 @@ impl Page {
             warn_limits: [0x2A3D, 0xD280, 0xEB70, 0xD3FF, 0xC3F5],
             status: [0; 4],
             tripped: false,
+            machines: [Machine::AT_REST; 5],
             readings: [Reading::default(); 4],
         }
     }
 
-    /// Whether OPERATION and the six responses are valid data.
+    /// Whether OPERATION and the six responses are valid data and each machine has a
+    /// value that occurs.
     pub fn valid(&self) -> bool {
         operation_valid(self.operation)
-            && (0..6).all(|cause| action(cause, self.responses[cause]).is_some())
+            && (0..6).all(|cause| response_valid(cause, self.responses[cause]))
+            && self.machines.iter().all(Machine::valid)
     }
 
     /// Whether a cause is present (data sheet 6.2).
@@ -169,20 +164,22 @@ impl Page {
         reading.measured && place == watch.side
     }
 
-    /// Whether some present cause has a response of this action.
-    fn has(&self, wanted: Action) -> bool {
-        (0..6).any(|cause| {
-            self.present(cause) && action(cause, self.responses[cause]) == Some(wanted)
-        })
+    /// Whether some present cause has the action "off while the fault lasts".
+    fn off_for_now(&self) -> bool {
+        let off = |&cause: &usize| self.present(cause) && self.responses[cause] >= 0xC0;
+        MACHINED.iter().any(off)
     }
 
-    /// Whether the page supplies (data sheet 7.6).
+    /// Whether the page supplies: data sheet 7.6, and no machine holds it.
     pub fn supplies(&self) -> bool {
-        self.operation == 0x80 && !self.tripped && !self.has(Action::OffWhileFaultLasts)
+        self.operation == 0x80
+            && !self.tripped
+            && !self.off_for_now()
+            && !self.machines.iter().any(Machine::holds)
     }
 
-    /// Sets the bits of the present causes and warnings and trips the page where a
-    /// cause has the response "shut down, stay off". Tells whether a bit rose.
+    /// Sets the bits of the present causes and warnings, then sees to what the causes
+    /// do to the page. Tells whether a bit rose.
     pub(crate) fn bring_up_to_date(&mut self) -> bool {
         let before = self.status;
         for (index, cause) in CAUSES.iter().enumerate() {
@@ -195,10 +192,36 @@ impl Page {
                 self.status[warning.quantity] |= warning.bit;
             }
         }
-        if self.has(Action::ShutDown) {
+        self.answer_causes();
+        self.status != before
+    }
+
+    /// One tick: every machine steps, then what no run leaves undone is done, the
+    /// status bits aside.
+    pub(crate) fn tick(&mut self) {
+        self.step(Machine::after_tick);
+        self.answer_causes();
+    }
+
+    /// Starts the machines of present causes, and trips the page where IOUT_OC is
+    /// present with its response "shut down, stay off".
+    fn answer_causes(&mut self) {
+        self.step(Machine::after_call);
+        if self.present(IOUT_OC) && self.responses[IOUT_OC] == 0xC0 {
             self.tripped = true;
         }
-        self.status != before
+    }
+
+    /// Takes each machine one step; one that trips, trips the page.
+    fn step(&mut self, step: fn(Machine, u8, bool) -> Machine) {
+        for (index, cause) in MACHINED.into_iter().enumerate() {
+            let before = self.machines[index];
+            let after = step(before, self.responses[cause], self.present(cause));
+            self.machines[index] = after;
+            if after.phase == machine::TRIPPED && before.phase != machine::TRIPPED {
+                self.tripped = true;
+            }
+        }
     }
 
     /// The latest word of a quantity, or 0000h.
@@ -267,13 +290,19 @@ impl Page {
         } else if let Some(warning) = warn_limit_of(code) {
             self.warn_limits[warning] = word(data);
         } else if let Some(cause) = response_of(code) {
+            // Also the same byte puts the machine to rest. It does not untrip.
             self.responses[cause] = data[0];
+            if let Some(index) = MACHINED.iter().position(|&own| own == cause) {
+                self.machines[index] = Machine::AT_REST;
+            }
         } else if code == 0x21 {
             self.vout_command = word(data);
         } else if code == 0x01 {
             self.operation = data[0];
-            // 00h and 40h untrip; a cause still present trips again afterwards.
+            // 00h and 40h put every machine to rest and untrip; a cause still present
+            // starts its machine or trips again afterwards.
             if data[0] != 0x80 {
+                self.machines = [Machine::AT_REST; 5];
                 self.tripped = false;
             }
         }
@@ -284,7 +313,7 @@ impl Page {
 pub(crate) fn data_valid(code: u8, data: &[u8]) -> bool {
     match (code, response_of(code)) {
         (0x01, _) => operation_valid(data[0]),
-        (_, Some(cause)) => action(cause, data[0]).is_some(),
+        (_, Some(cause)) => response_valid(cause, data[0]),
         _ => true,
     }
 }

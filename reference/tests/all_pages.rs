@@ -1,4 +1,4 @@
-//! PAGE FFh (02, request 2).
+//! PAGE FFh (data sheet 3.8).
 
 mod common;
 use common::*;

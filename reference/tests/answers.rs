@@ -180,6 +180,7 @@ fn answer_8_by_level() {
 
 #[test]
 fn answer_9_by_data() {
+    let all: Vec<u8> = (0..=255).collect();
     for (code, _) in WRITTEN.into_iter().filter(|row| row.1 == 1) {
         let valid: &[u8] = match code {
             0x00 => &[0, 1, 2, 3, 4, 5, 6, 7, 0xFF],
@@ -187,7 +188,8 @@ fn answer_9_by_data() {
             0x10 => &[0x00, 0x20, 0x40, 0x80],
             0x47 => &[0x00, 0xC0],
             0x7A..=0x7E => continue, // any byte; see clearings.rs
-            _ => &[0x00, 0x80, 0xC0],
+            0x41 | 0x50 | 0x54 | 0x56 | 0x5A => &all,
+            _ => unreachable!("{code:02x}"),
         };
         for value in 0..=255 {
             let before = Device::power_on();
@@ -221,10 +223,10 @@ fn order_of_write_answers() {
     let protected = device(|device| device.protect = 0x80);
     let answer = |bytes: &[u8]| write(&mut { protected }, bytes);
     assert_eq!(answer(&[0x78, 0x80, 0x00]), 3); // 3 before 7
-    assert_eq!(answer(&[0x41]), 5); // 5 before 8
-    assert_eq!(answer(&[0x41, 0x12, 0x00, 0x00]), 6); // 6 before 8 and 9
-    assert_eq!(answer(&[0x41, 0x12, 0x00]), 7); // 7 before 8 and 9
-    assert_eq!(answer(&[0x41, 0x12]), 8); // 8 before 9
+    assert_eq!(answer(&[0x47]), 5); // 5 before 8
+    assert_eq!(answer(&[0x47, 0x12, 0x00, 0x00]), 6); // 6 before 8 and 9
+    assert_eq!(answer(&[0x47, 0x12, 0x00]), 7); // 7 before 8 and 9
+    assert_eq!(answer(&[0x47, 0x12]), 8); // 8 before 9
     assert_eq!(answer(&[0x10, 0x12]), 9); // 10 is permitted, so 9
     assert_eq!(answer(&[0x10, 0x12, 0x00]), 7); // 7 before 9
 }

@@ -18,6 +18,15 @@ fn example_of_the_data_sheet() {
 }
 
 #[test]
+fn a_tick_is_07_alone() {
+    // VIN_OV is off for one tick, then tried, then tripped.
+    let input = b"01c00180\n01c05688\n030002ff7b\n0201c078c1\n07\n0201c078c1\n0700\n0707\n\
+        7\n0201c078c1\n07\n0201c078c1\n";
+    let output = "00\n00\n00\n0041\n00\n0001\nff\nff\nff\n0001\n00\n0041\n";
+    assert_eq!(run(input), output);
+}
+
+#[test]
 fn last_line_without_lf() {
     assert_eq!(run(b""), "");
     assert_eq!(run(b"\n"), "ff\n");

@@ -3,7 +3,7 @@
 mod common;
 
 use common::*;
-use reference::device::{Account, Device, Page, Reading, ALL_PAGES};
+use reference::device::{Account, Device, Machine, Page, Reading, ALL_PAGES};
 use reference::lent::{self, Unpaged, MOST};
 
 /// Numbers with no pattern to them.
@@ -37,15 +37,30 @@ impl Random {
         page.vout_command = self.word();
         page.limits = [0; 6].map(|_: u16| self.word());
         page.warn_limits = [0; 5].map(|_: u16| self.word());
-        page.responses = [0; 6].map(|_: u8| self.pick(&[0x00, 0x80, 0xC0]));
+        page.responses = [0; 6].map(|_: u8| self.byte());
         page.responses[1] = self.pick(&[0x00, 0xC0]);
         page.status = [0; 4].map(|_: u8| self.pick(&[0x00, 0x90, 0xFF]));
         page.tripped = self.below(2) == 0;
+        page.machines = [Machine::AT_REST; 5].map(|_| self.machine());
         page.readings = [Reading::default(); 4].map(|_| Reading {
             measured: self.below(2) == 0,
             word: self.word(),
         });
         page
+    }
+
+    /// Any of the machines that occur.
+    fn machine(&mut self) -> Machine {
+        loop {
+            let machine = Machine {
+                phase: self.below(5) as u8,
+                ticks: self.below(8) as u8,
+                tries: self.below(8) as u8,
+            };
+            if machine.valid() {
+                return machine;
+            }
+        }
     }
 
     fn unpaged(&mut self, pages: usize) -> Unpaged {
@@ -67,7 +82,8 @@ impl Random {
 
     /// A call of any kind, more often good than not.
     fn call(&mut self, pages: usize) -> Call {
-        match self.below(8) {
+        match self.below(9) {
+            8 => Call::Tick,
             0..=3 => {
                 let (code, data) = self.pick(&WRITTEN);
                 let mut bytes = vec![0xC0, code];
@@ -99,6 +115,7 @@ enum Call {
     Measure(u8, u8, u16),
     Sample(u16),
     Alert(usize),
+    Tick,
 }
 
 /// The call on lent records: its answer and reply.
@@ -118,6 +135,7 @@ fn on_lent(unpaged: &mut Unpaged, pages: &mut [Page], call: &Call) -> (u8, Vec<u
             reply.resize(*n, 0x55);
             lent::alert_response(unpaged, pages, &mut reply)
         }
+        Call::Tick => lent::tick(unpaged, pages),
     };
     (answer, reply)
 }
@@ -132,17 +150,19 @@ fn on_device(device: &mut Device, call: &Call) -> (u8, Vec<u8>) {
         }
         Call::Sample(sample) => (device.sample(*sample), Vec::new()),
         Call::Alert(n) => alert(device, *n),
+        Call::Tick => (device.tick(), Vec::new()),
     }
 }
 
 /// One call of each kind that is good with any number of pages.
-fn one_of_each() -> [Call; 5] {
+fn one_of_each() -> [Call; 6] {
     [
         Call::Write(vec![0xC0, 0x03]),
         Call::Read(vec![0xC0, 0x98, 0xC1], 3),
         Call::Measure(0, 0, 0xFFFF),
         Call::Sample(1),
         Call::Alert(1),
+        Call::Tick,
     ]
 }
 
@@ -226,6 +246,9 @@ fn any_record_or_the_unpaged_part() {
             pages[place] = Page::power_on();
             pages[place].responses[1] = 0x80;
             all_get_15(usual, &pages);
+            pages[place] = Page::power_on();
+            pages[place].machines[4].tries = 1;
+            all_get_15(usual, &pages);
         }
         let pages = vec![Page::power_on(); count];
         let mut bad = usual;
@@ -266,6 +289,7 @@ fn eight_lent_records_are_the_device_of_eight_pages() {
         let mut unpaged = random.unpaged(8);
         let mut pages: [Page; 8] = std::array::from_fn(|_| random.page());
         match round % 40 {
+            3 => pages[random.below(8)].machines[random.below(5)].phase = random.byte(),
             0 => unpaged.page = random.byte(),
             1 => pages[random.below(8)].operation = random.byte(),
             2 => unpaged.account.accumulator = random.word(),
@@ -282,8 +306,7 @@ fn eight_lent_records_are_the_device_of_eight_pages() {
     }
 }
 
-/// A write changes only the selected record, under FFh any, a measurement only that
-/// of its page, a read, a sample or an alert response none.
+/// The records that a call leaves alone (data sheet 16.5).
 #[test]
 fn records_that_a_call_leaves_alone() {
     let mut random = Random(4);
@@ -300,6 +323,7 @@ fn records_that_a_call_leaves_alone() {
                 let touched = match call {
                     Call::Write(_) => before.page == ALL_PAGES || usize::from(before.page) == place,
                     Call::Measure(page, _, _) => usize::from(page) == place,
+                    Call::Tick => pages[place].status == record.status,
                     _ => false,
                 };
                 assert!(touched || pages[place] == *record, "{call:?} page {place}");

@@ -2,7 +2,7 @@
 
 mod common;
 use common::*;
-use reference::device::{Device, Page, Reading};
+use reference::device::{Device, Machine, Page, Reading};
 
 /// Makes every kind of call on a state that must get 15 and stay as it is.
 fn all_calls_get_15(mut state: Device) {
@@ -19,6 +19,7 @@ fn all_calls_get_15(mut state: Device) {
     assert_eq!(state.measure(8, 4, 0), 15);
     assert_eq!(state.sample(0), 15);
     assert_eq!(state.sample(32768), 15);
+    assert_eq!(state.tick(), 15);
     for n in [0, 1, 2] {
         assert_eq!(alert(&mut state, n), (15, vec![0xFF; n]));
     }
@@ -46,9 +47,19 @@ fn answer_15_fields_of_every_page() {
         for value in [0x01, 0x20, 0xC0, 0xFF] {
             all_calls_get_15(device(|device| device.pages[page].operation = value));
         }
-        for cause in 0..6 {
-            let value = if cause == 1 { 0x80 } else { 0x40 };
-            all_calls_get_15(device(|device| device.pages[page].responses[cause] = value));
+        for value in [0x40, 0x80, 0xC1, 0xFF] {
+            all_calls_get_15(device(|device| device.pages[page].responses[1] = value));
+        }
+        for machine in 0..5 {
+            for (phase, ticks, tries) in [(0, 0, 1), (1, 0, 0), (2, 8, 1), (3, 0, 6), (5, 0, 0)] {
+                all_calls_get_15(device(|device| {
+                    device.pages[page].machines[machine] = Machine {
+                        phase,
+                        ticks,
+                        tries,
+                    };
+                }));
+            }
         }
     }
 }
@@ -69,6 +80,11 @@ fn every_other_field_may_hold_anything() {
             responses: [0xC0; 6],
             status: [0xFF; 4],
             tripped: true,
+            machines: [Machine {
+                phase: 2,
+                ticks: 7,
+                tries: 7,
+            }; 5],
             readings: [Reading {
                 measured: true,
                 word: 0xFFFF,
@@ -218,7 +234,10 @@ fn present_causes_have_their_bits_after_every_call() {
         (seed >> 33) % bound
     };
     for _ in 0..200_000 {
-        match next(4) {
+        match next(5) {
+            4 => {
+                assert_eq!(device.tick(), 0);
+            }
             0 | 1 => {
                 device.measure(next(9) as u8, next(5) as u8, next(65_536) as u16);
             }
@@ -243,6 +262,7 @@ fn present_causes_have_their_bits_after_every_call() {
                 read(&mut device, 0x70 + next(32) as u8, next(4) as usize);
             }
         }
+        assert!(device.valid());
         for page in &device.pages {
             let (bits, trip) = due(page);
             for (register, bit) in page.status.iter().zip(bits) {

@@ -1,4 +1,4 @@
-//! The five kinds of call: random ones, and one call made on the library and on the second program.
+//! The six kinds of call: random ones, and one call made on the library and on the second program.
 
 use crate::library::{self, Device, Page, Unpaged};
 use crate::mirror;
@@ -15,9 +15,17 @@ pub enum Call {
     Measure(u8, u8, u16),
     Sample(u16),
     AlertResponse(usize),
+    Tick,
 }
 
-pub const KINDS: [&str; 5] = ["write", "read", "measure", "sample", "alert response"];
+pub const KINDS: [&str; 6] = [
+    "write",
+    "read",
+    "measure",
+    "sample",
+    "alert response",
+    "tick",
+];
 
 impl Call {
     /// The place of the kind in `KINDS`.
@@ -28,6 +36,7 @@ impl Call {
             Call::Measure(..) => 2,
             Call::Sample(_) => 3,
             Call::AlertResponse(_) => 4,
+            Call::Tick => 5,
         }
     }
 
@@ -62,6 +71,7 @@ pub fn on_library(device: Device, call: &Call, before: u8) -> Outcome {
         Call::Measure(page, quantity, word) => library::measure(device, *page, *quantity, *word),
         Call::Sample(sample) => library::sample(device, *sample),
         Call::AlertResponse(_) => library::alert_response(device, reply),
+        Call::Tick => library::tick(device),
     };
     assert_eq!(
         room[n..],
@@ -86,6 +96,7 @@ pub fn on_reference(device: Device, call: &Call, before: u8) -> Outcome {
         Call::Measure(page, quantity, word) => state.measure(*page, *quantity, *word),
         Call::Sample(sample) => state.sample(*sample),
         Call::AlertResponse(_) => state.alert_response(&mut reply),
+        Call::Tick => state.tick(),
     };
     Outcome {
         device: mirror::from_reference(&state),
@@ -107,11 +118,12 @@ pub fn on_both(device: Device, call: &Call, before: u8) -> Outcome {
 
 /// A random call, shaped so that on this state every answer is met often.
 pub fn random_call(random: &mut Random, unpaged: &Unpaged, pages: &[Page]) -> Call {
-    match random.below(10) {
+    match random.below(12) {
         0..=3 => Call::Write(write(random, unpaged, pages)),
         4..=6 => read(random),
         7 => measure(random, unpaged, pages),
         8 => Call::Sample(sample(random)),
+        9 | 10 => Call::Tick,
         _ => Call::AlertResponse(if random.once_in(3) {
             random.below(12)
         } else {
@@ -162,7 +174,8 @@ fn data(random: &mut Random, unpaged: &Unpaged, pages: &[Page], code: u8) -> Vec
         0x00 => states::selection(random, pages.len()),
         0x01 => random.pick(&[0x00, 0x40, 0x80, 0x80]),
         0x10 => random.pick(&[0x00, 0x00, 0x00, 0x20, 0x40, 0x80]),
-        0x41 | 0x47 | 0x50 | 0x54 | 0x56 | 0x5A => random.pick(&[0x00, 0x80, 0xC0]),
+        0x47 => random.pick(&[0x00, 0x80, 0xC0]),
+        0x41 | 0x50 | 0x54 | 0x56 | 0x5A => states::response(random, 0),
         _ => random.u8(),
     };
     let measured = match code {

@@ -52,6 +52,7 @@ fn on_library(u: Unpaged, pages: &[Page], call: &Call, before: u8, fence: Page) 
         Call::Measure(page, quantity, word) => lent::measure(u, records, *page, *quantity, *word),
         Call::Sample(sample) => lent::sample(u, records, *sample),
         Call::AlertResponse(_) => lent::alert_response(u, records, reply),
+        Call::Tick => lent::tick(u, records),
     };
     assert_eq!(room[n..], [before; GUARD], "behind the reply: {call:02x?}");
     room.truncate(n);
@@ -75,6 +76,7 @@ fn on_reference(u: Unpaged, pages: &[Page], call: &Call, before: u8) -> Outcome 
         }
         Call::Sample(sample) => second::sample(&mut unpaged, &records, *sample),
         Call::AlertResponse(_) => second::alert_response(&mut unpaged, &records, &mut reply),
+        Call::Tick => second::tick(&unpaged, &mut records),
     };
     Outcome {
         unpaged: mirror::unpaged_from_reference(&unpaged),

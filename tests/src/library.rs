@@ -29,6 +29,7 @@ pub struct Page {
     pub command: u16,
     pub limits: [u16; 11],
     pub responses: [u8; 6],
+    pub machines: [u8; 6],
     pub words: [u16; 4],
     pub measured: [bool; 4],
     pub status: [u8; 4],
@@ -95,6 +96,7 @@ mod archive {
         ) -> Done;
         pub fn tongsorrel_measure(d: Device, page: u8, quantity: u8, word: u16) -> Done;
         pub fn tongsorrel_sample(d: Device, sample: u16) -> Done;
+        pub fn tongsorrel_tick(d: Device) -> Done;
         pub fn tongsorrel_alert_response(d: Device, reply: *mut u8, n: usize) -> Done;
         pub fn tongsorrel_supplies(d: Device, page: u8) -> bool;
         pub fn tongsorrel_lent_power_on(pages: *mut Page, number: usize) -> Outcome;
@@ -128,6 +130,7 @@ mod archive {
             number: usize,
             sample: u16,
         ) -> Outcome;
+        pub fn tongsorrel_lent_tick(u: Unpaged, pages: *mut Page, number: usize) -> Outcome;
         pub fn tongsorrel_lent_alert_response(
             u: Unpaged,
             pages: *const Page,
@@ -188,6 +191,10 @@ pub fn sample(d: Device, sample: u16) -> Done {
     unsafe { archive::tongsorrel_sample(d, sample) }
 }
 
+pub fn tick(d: Device) -> Done {
+    unsafe { archive::tongsorrel_tick(d) }
+}
+
 pub fn alert_response(d: Device, reply: &mut [u8]) -> Done {
     unsafe { archive::tongsorrel_alert_response(d, reply.as_mut_ptr(), reply.len()) }
 }
@@ -230,6 +237,10 @@ pub mod lent {
 
     pub fn sample(u: Unpaged, pages: &[Page], sample: u16) -> Outcome {
         unsafe { archive::tongsorrel_lent_sample(u, pages.as_ptr(), pages.len(), sample) }
+    }
+
+    pub fn tick(u: Unpaged, pages: &mut [Page]) -> Outcome {
+        unsafe { archive::tongsorrel_lent_tick(u, pages.as_mut_ptr(), pages.len()) }
     }
 
     pub fn alert_response(u: Unpaged, pages: &[Page], reply: &mut [u8]) -> Outcome {

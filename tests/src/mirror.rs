@@ -1,9 +1,71 @@
 //! A state of the library as the second program's and back: every field, and nothing lost.
 
 use crate::library;
-use reference::device::{Account, Device, Page, Reading};
+use reference::device::{Account, Device, Machine, Page, Reading};
 use reference::lent::Unpaged;
 use reference::totalizer::Totalizer;
+
+/// The causes of the second program's five machines; IOUT_OC has none.
+const CAUSES: [usize; 5] = [0, 2, 3, 4, 5];
+const IOUT_OC: usize = 1;
+/// Phases that the second program does not have, for bytes that are no machine's.
+const NO_MACHINE: u8 = 5;
+const IOUT_OC_TOO: u8 = 6;
+
+/// A machine's byte is tries and ticks, an octal digit each, the try under way counted among the tries; 64 is tripped.
+fn machine_to_reference(byte: u8) -> Machine {
+    let (tries, ticks) = (byte / 8, byte % 8);
+    let (phase, ticks, tries) = match byte {
+        0 => (0, 0, 0),
+        1..=7 => (1, ticks, 0),
+        64 => (4, 0, 0),
+        65.. => (NO_MACHINE, byte, 0),
+        _ if ticks > 0 => (2, ticks, tries),
+        56 => (3, 0, 7),
+        _ => (3, 0, tries - 1),
+    };
+    Machine {
+        phase,
+        ticks,
+        tries,
+    }
+}
+
+fn machine_from_reference(machine: Machine) -> u8 {
+    match machine.phase {
+        0 => 0,
+        1 => machine.ticks,
+        2 => 8 * machine.tries + machine.ticks,
+        3 if machine.tries == 7 => 56,
+        3 => 8 * (machine.tries + 1),
+        4 => 64,
+        _ => machine.ticks,
+    }
+}
+
+/// A byte other than 00h at IOUT_OC, which makes the page one for answer 15, is kept beside that of the first machine.
+fn machines_to_reference(bytes: [u8; 6]) -> [Machine; 5] {
+    let mut machines = CAUSES.map(|cause| machine_to_reference(bytes[cause]));
+    if bytes[IOUT_OC] != 0 {
+        machines[0] = Machine {
+            phase: IOUT_OC_TOO,
+            ticks: bytes[0],
+            tries: bytes[IOUT_OC],
+        };
+    }
+    machines
+}
+
+fn machines_from_reference(machines: [Machine; 5]) -> [u8; 6] {
+    let mut bytes = [0; 6];
+    for (machine, cause) in machines.into_iter().zip(CAUSES) {
+        bytes[cause] = machine_from_reference(machine);
+    }
+    if machines[0].phase == IOUT_OC_TOO {
+        bytes[IOUT_OC] = machines[0].tries;
+    }
+    bytes
+}
 
 pub fn page_to_reference(page: &library::Page) -> Page {
     Page {
@@ -12,6 +74,7 @@ pub fn page_to_reference(page: &library::Page) -> Page {
         limits: std::array::from_fn(|cause| page.limits[cause]),
         warn_limits: std::array::from_fn(|warning| page.limits[6 + warning]),
         responses: page.responses,
+        machines: machines_to_reference(page.machines),
         status: page.status,
         tripped: page.tripped,
         readings: std::array::from_fn(|quantity| Reading {
@@ -30,6 +93,7 @@ pub fn page_from_reference(page: &Page) -> library::Page {
             _ => page.warn_limits[limit - 6],
         }),
         responses: page.responses,
+        machines: machines_from_reference(page.machines),
         words: page.readings.map(|reading| reading.word),
         measured: page.readings.map(|reading| reading.measured),
         status: page.status,

@@ -36,10 +36,20 @@ pub fn near(random: &mut Random, word: u16) -> u16 {
 }
 
 pub fn response(random: &mut Random, cause: usize) -> u8 {
+    let any = random.u8();
     if cause == IOUT_OC {
         random.pick(&[0x00, 0xC0])
     } else {
-        random.pick(&[0x00, 0x80, 0xC0])
+        random.pick(&[0x00, 0x80, 0xC0, any, any])
+    }
+}
+
+/// The byte of a machine that occurs, often at rest; IOUT_OC has none.
+fn machine(random: &mut Random, cause: usize) -> u8 {
+    if cause == IOUT_OC || random.bool() {
+        0
+    } else {
+        random.below(65) as u8
     }
 }
 
@@ -75,6 +85,7 @@ pub fn page(random: &mut Random) -> Page {
         command: word(random),
         limits,
         responses: std::array::from_fn(|cause| response(random, cause)),
+        machines: std::array::from_fn(|cause| machine(random, cause)),
         words,
         measured: std::array::from_fn(|_| !random.once_in(4)),
         status: std::array::from_fn(|_| register(random)),
@@ -140,15 +151,20 @@ pub fn account_beyond(random: &mut Random) -> Account {
 pub fn spoil(random: &mut Random, unpaged: &mut Unpaged, pages: &mut [Page]) {
     let number = pages.len() as u8;
     let page = &mut pages[random.below(usize::from(number))];
-    match random.below(5) {
+    match random.below(6) {
         0 => unpaged.page = random.pick(&[number, number + 1, 0x80, 0xFE]),
         1 => unpaged.protect = random.pick(&[0x01, 0x10, 0x21, 0x60, 0xA0, 0xC0, 0xFF]),
         2 => unpaged.energy = account_beyond(random),
         3 => page.operation = random.pick(&[0x01, 0x20, 0x41, 0x81, 0xC0, 0xFF]),
+        4 => page.responses[IOUT_OC] = random.pick(&[0x80, 0x40, 0x01, 0x20, 0x81, 0xC1, 0xFF]),
         _ => {
             let cause = random.below(6);
-            let other_code = if cause == IOUT_OC { 0x80 } else { 0x40 };
-            page.responses[cause] = random.pick(&[other_code, 0x01, 0x20, 0x81, 0xC1, 0xFF]);
+            let byte = random.pick(&[65, 66, 0x80, 0xC0, 0xFF]);
+            page.machines[cause] = if cause == IOUT_OC {
+                byte % 65 + 1
+            } else {
+                byte
+            };
         }
     }
 }
@@ -175,12 +191,18 @@ pub fn any_unpaged(random: &mut Random) -> Unpaged {
     }
 }
 
+/// The second program has no place for a machine of IOUT_OC, and no state with one but 00h there gets past answer 15.
+pub fn without_iout_oc_machine(page: &mut Page) {
+    page.machines[IOUT_OC] = 0;
+}
+
 pub fn any_page(random: &mut Random) -> Page {
     Page {
         operation: random.u8(),
         command: random.u16(),
         limits: std::array::from_fn(|_| random.u16()),
         responses: std::array::from_fn(|_| random.u8()),
+        machines: std::array::from_fn(|_| random.u8()),
         words: std::array::from_fn(|_| random.u16()),
         measured: std::array::from_fn(|_| random.bool()),
         status: std::array::from_fn(|_| random.u8()),

@@ -14,7 +14,7 @@ impl Seen {
     }
 
     /// Fails unless each kind got exactly these answers.
-    pub fn require(&self, answers: [&[u8]; 5]) {
+    pub fn require(&self, answers: [&[u8]; 6]) {
         for (kind, wanted) in answers.iter().enumerate() {
             let got: Vec<u8> = self
                 .0

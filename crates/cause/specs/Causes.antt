@@ -2,10 +2,11 @@
 -- the other crates say of them, their codes included, is worked out from this table or proved to agree with it.
 -- Assumes nothing.
 use Prim.Native.Nat.{ℕ, _-_}
-use mathlib.Core.Bool.{Bool, false, _||_}
+use mathlib.Core.Bool.{Bool, true, false, _&&_, _||_}
 use mathlib.Core.List.{List, [], _∷_, _++_, map}
 use lib.Dec.{eqb}
 use lib.ListN.{getD}
+use Rattle.retry.specs.Response.{holdsAtOnce, offWhilePresent, retries}
 
 -- the quantities (data sheet 5.1)
 abbrev pub VOUT : ℕ
@@ -40,24 +41,30 @@ pub record Limit : Type 0 where
   pub bitNumber : ℕ
   pub powerOnLimit : ℕ
 
--- the meanings of a response byte (data sheet 3.6): those of voltages and temperatures, and those of currents
+-- the meanings of a response byte (data sheet 3.6): those of voltages and temperatures, by its action, retries and delay, and those of currents
 pub data Actions : Type 0 where
   voltage : Actions
   current : Actions
 
 -- the byte says: shut down and stay off
 abbrev pub staysOffAt : Actions → ℕ → Bool
-staysOffAt voltage x = eqb x 0x80
+staysOffAt voltage x = holdsAtOnce x && eqb (retries x) 0
 staysOffAt current x = eqb x 0xC0
+
+-- a present cause trips the page without a retry machine
+abbrev pub tripsAt : Actions → ℕ → Bool
+tripsAt voltage x = false
+tripsAt current x = eqb x 0xC0
 
 -- the byte says: off for as long as the cause is present
 abbrev pub lastsAt : Actions → ℕ → Bool
-lastsAt voltage x = eqb x 0xC0
+lastsAt voltage x = offWhilePresent x
 lastsAt current x = false
 
--- these two and 00h, to go on, are the valid bytes
+-- every byte says something of a voltage or a temperature; of a current 00h, to go on, and C0h
 abbrev pub validAt : Actions → ℕ → Bool
-validAt a x = eqb x 0x00 || staysOffAt a x || lastsAt a x
+validAt voltage x = true
+validAt current x = eqb x 0x00 || eqb x 0xC0
 
 -- how a supply responds to a cause: the response's code, its meanings, and its byte at power-on
 pub record Response : Type 0 where

@@ -4,7 +4,7 @@
 use Prim.Native.Nat.{ℕ, zero, suc, _+_, _%_, _<_, _≤_}
 use mathlib.Core.Path.{_≡_, refl, sym, ap, _∙_}
 use mathlib.Core.Bool.{Bool, true, false, cond, _&&_, _||_, or-false, or-true, or-comm, or-assoc, and-false}
-use mathlib.Core.List.{List, [], _∷_}
+use mathlib.Core.List.{List, [], _∷_, map}
 use native.Mathlib.Nat.{not-suc-le-zero, le-of-suc-le-suc}
 use native.Mathlib.Omega.{arith}
 use lib.Dec.{eqb, leb, ltb}
@@ -14,6 +14,7 @@ use borrow.Author.Tests.{eqb-true, eqb-false, eq-eqb, ne-eqb, ltb-true, ltb-fals
 use Rattle.laws.specs.Lists.{mapAt, anyPair}
 use Rattle.laws.proofs.Branches.{either}
 use Rattle.laws.proofs.Places.{length-map-at, map-at, map-kept}
+use Rattle.laws.proofs.Sweeps.{map-every}
 use Rattle.unpaged.specs.declared.Unpaged.{Unpaged}
 use Rattle.unpaged.specs.Unpaged.{validPage, actsOn}
 
@@ -53,6 +54,12 @@ module _ {A : Type 0} (d : A) (f : A → A) where
       go : (t : ℕ → Bool) (l : List A) → ((i : ℕ) → t i ≡ false) → l ≡ mapAt t f l
       go t [] h = refl
       go t (x ∷ l) h = rw (h 0) (ap (λ (m : List A). x ∷ m) (go (λ i. t (suc i)) l (λ i. h (suc i))))
+
+  pub map-whole : (l : List A) (n : ℕ) → length l ≡ n → mapAt (within 0 n) f l ≡ map f l
+  unfolding within
+  map-whole l n e =
+      map-agree (within 0 n) (λ i. true) l (λ i h. rw (le-leb 0 i (omega arith)) (lt-ltb i n (omega arith)))
+      ∙ map-every (λ i. true) f l (λ i. refl)
 
   module _ (l m : List A) (a k : ℕ) (is : m ≡ mapAt (within a k) f l) where
     pub same-length : length m ≡ length l

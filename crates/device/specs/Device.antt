@@ -26,8 +26,8 @@ powerOn n = device powerOnUnpaged (replicate n powerOnPage)
 unfoldable pub supported : ℕ → Bool
 supported n = ltb 0 n && ltb n 97
 
--- Every other state gets answer 15: PAGE, WRITE_PROTECT, the account, and OPERATION and the responses of every page are looked at, and nothing
--- else (data sheet 12.2).
+-- Every other state gets answer 15: PAGE, WRITE_PROTECT, the account, and OPERATION, the responses and the machines of every page are looked at,
+-- and nothing else (data sheet 12.2).
 unfoldable pub deviceValid : Device → Bool
 deviceValid d = supported (length (d .pages)) && unpagedValid (length (d .pages)) (d .unpaged) && allOf pageValid (d .pages)
 

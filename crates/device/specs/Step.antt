@@ -3,13 +3,13 @@
 -- Assumes nothing.
 use Prim.Native.Nat.{ℕ}
 use mathlib.Core.Bool.{Bool, cond, false}
-use mathlib.Core.List.{List, []}
+use mathlib.Core.List.{List, [], map}
 use lib.ListN.{length, getD}
 use lib.Dec.{eqb}
 use Rattle.laws.specs.Lists.{mapAt}
 use Rattle.account.specs.Account.{sampled}
 use Rattle.page.specs.declared.Page.{Page}
-use Rattle.page.specs.Causes.{settled}
+use Rattle.page.specs.Causes.{settled, ticked}
 use Rattle.page.specs.Settings.{setMeasurement}
 use Rattle.unpaged.specs.Unpaged.{actsOn, refused, withAlert, withEnergy}
 use Rattle.unpaged.specs.Events.{measureAnswer, alertAnswer}
@@ -35,6 +35,8 @@ pub data Call : Type 0 where
   sample : ℕ → Call
   -- an alert response, and the number of bytes clocked
   alertResponse : ℕ → Call
+  -- a tick: one unit of the delays on every page
+  tick : Call
 
 -- the answer of a call to a valid state
 unfoldable pub answerOf : Device → Call → ℕ
@@ -43,6 +45,7 @@ answerOf d (read header n) = readAnswer (d .unpaged) header n
 answerOf d (measure page quantity word) = measureAnswer (length (d .pages)) page quantity
 answerOf d (sample n) = sampled (d .unpaged .energy) n .answer
 answerOf d (alertResponse n) = alertAnswer (d .unpaged .alert) n
+answerOf d tick = 0
 
 -- any other state gets 15, before every other test (data sheet 11.1)
 unfoldable pub answered : Device → Call → ℕ
@@ -62,6 +65,10 @@ measuredTo d page quantity word = device (d .unpaged) (mapAt (eqb page) (λ p. s
 unfoldable pub measured : Device → ℕ → ℕ → ℕ → Device
 measured d page quantity word = alertRisen d (measuredTo d page quantity word)
 
+-- a tick on every page; it sets no bit and leaves the alert (data sheet 7.9)
+unfoldable pub tickedDevice : Device → Device
+tickedDevice d = device (d .unpaged) (map ticked (d .pages))
+
 -- what a call with answer 0 leaves
 unfoldable pub effect : Device → Call → Device
 effect d (write s) = written d (asked s)
@@ -69,6 +76,7 @@ effect d (read header n) = d
 effect d (measure page quantity word) = measured d page quantity word
 effect d (sample n) = device (withEnergy (d .unpaged) (sampled (d .unpaged .energy) n .account)) (d .pages)
 effect d (alertResponse n) = device (withAlert (d .unpaged) false) (d .pages)
+effect d tick = tickedDevice d
 
 -- what any other answer leaves: at most a bit of STATUS_CML, and the alert (data sheet 11.6)
 unfoldable pub refusedDevice : Device → ℕ → Device
@@ -84,6 +92,7 @@ sent d (read header n) answer = readStream (d .unpaged) (pageOf d (d .unpaged .p
 sent d (measure page quantity word) answer = []
 sent d (sample n) answer = []
 sent d (alertResponse n) answer = alertStream answer
+sent d tick answer = []
 
 -- the bytes of the reply buffer
 abbrev pub clocked : Call → ℕ
@@ -92,6 +101,7 @@ clocked (read header n) = n
 clocked (measure page quantity word) = 0
 clocked (sample n) = 0
 clocked (alertResponse n) = n
+clocked tick = 0
 
 abbrev pub done : Device → ℕ → Done
 done d answer = record { device = d; answer = answer }

@@ -1,9 +1,9 @@
-// The shelf device: eight pages behind one address. Power-on and the five calls; each takes the whole state by value and
+// The shelf device: eight pages behind one address. Power-on and the six calls; each takes the whole state by value and
 // hands it back with the answer number. Any bytes, numbers and states are taken.
 ghost use mathlib.Core.Path.{_≡_};
 ghost use lib.ListN.{length};
 ghost use Rattle.device.specs.Device.{powerOn};
-ghost use Rattle.device.specs.Step.{write, read, measure, sample, alertResponse, step};
+ghost use Rattle.device.specs.Step.{write, read, measure, sample, alertResponse, tick, step};
 use page::Page;
 use unpaged::Unpaged;
 
@@ -112,6 +112,19 @@ pub fn alert_response(d: Device, reply: &mut [u8]) -> Done
     let stream = reads::reply::alert_stream(answer);
     reads::reply::send(reply, stream);
     let next = steps::after_alert(d, answer);
+    Done {
+        device: next,
+        answer: answer,
+    }
+}
+
+// A tick: one unit of the delays on every page.
+pub fn tick(d: Device) -> Done
+    ensures { λ r. ⌜ r ≡ step d tick .done ⌝ }
+{
+    let valid = steps::device_valid(d);
+    let answer = steps::answered(valid, answer::DONE);
+    let next = steps::after_tick(d, answer);
     Done {
         device: next,
         answer: answer,

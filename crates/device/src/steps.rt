@@ -11,7 +11,7 @@ ghost use Rattle.writes.specs.Left.{clearing};
 ghost use Rattle.reads.specs.Reply.{stream};
 ghost use Rattle.unpaged.specs.Unpaged.{validPage, withAlert, withEnergy};
 ghost use Rattle.device.specs.Device.{device, deviceValid};
-ghost use Rattle.device.specs.Step.{read, measure, sample, alertResponse, answered, written, measured, refusedDevice, left, sent, done, step};
+ghost use Rattle.device.specs.Step.{read, measure, sample, alertResponse, tick, answered, written, measured, tickedDevice, refusedDevice, left, sent, done, step};
 use super::Device;
 use super::pages;
 use account::Account;
@@ -193,6 +193,32 @@ pub fn after_alert(d: Device, answer: u8) -> Device
 {
     if answer == answer::DONE {
         return alert_down(d);
+    }
+    refused(d, answer)
+}
+
+// A tick, page after page.
+fn ticked(d: Device) -> Device
+    requires { ⌜ length (d .pages) ≡ 8 ⌝ }
+    ensures { λ r. ⌜ r ≡ tickedDevice d ⌝ }
+{
+    let mut next = d;
+    let mut k: usize = 0;
+    while k < 8 {
+        let p = next.pages[k];
+        let q = page::causes::ticked(p);
+        next.pages[k] = q;
+        k = k + 1;
+    }
+    next
+}
+
+pub fn after_tick(d: Device, answer: u8) -> Device
+    requires { ⌜ length (d .pages) ≡ 8 ⌝ }
+    ensures { λ r. ⌜ r ≡ left d tick answer ⌝ }
+{
+    if answer == answer::DONE {
+        return ticked(d);
     }
     refused(d, answer)
 }

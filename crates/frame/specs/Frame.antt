@@ -7,7 +7,7 @@ use lib.ListN.{length, getD, drop}
 use lib.Dec.{leb, eqb}
 use Rattle.writes.specs.Asked.{wordOf}
 use Rattle.device.specs.declared.Device.{Device}
-use Rattle.device.specs.Step.{Call, write, read, measure, sample, alertResponse, Result, step, done}
+use Rattle.device.specs.Step.{Call, write, read, measure, sample, alertResponse, tick, Result, step, done}
 
 pub data Frame : Type 0 where
   bad : Frame
@@ -21,7 +21,8 @@ framed first b =
     (cond (eqb first 0x02 && leb 2 (length b)) (call (read (drop 2 b) (getD b 1 0)))
     (cond (eqb first 0x03 && eqb (length b) 5) (call (measure (getD b 1 0) (getD b 2 0) (wordOf (getD b 3 0) (getD b 4 0))))
     (cond (eqb first 0x04 && eqb (length b) 3) (call (sample (wordOf (getD b 1 0) (getD b 2 0))))
-    (cond (eqb first 0x05 && eqb (length b) 2) (call (alertResponse (getD b 1 0))) bad))))
+    (cond (eqb first 0x05 && eqb (length b) 2) (call (alertResponse (getD b 1 0)))
+    (cond (eqb first 0x07 && eqb (length b) 1) (call tick) bad)))))
 
 -- no byte at all is no frame
 unfoldable pub frameOf : List ℕ → Frame

@@ -4,7 +4,7 @@ ghost use mathlib.Core.List.{[]};
 ghost use Prim.Native.Nat.{min};
 ghost use lib.ListN.{length, getD, take, drop};
 ghost use Rattle.writes.specs.Asked.{wordOf};
-ghost use Rattle.device.specs.Step.{step, write, read, measure, sample, alertResponse};
+ghost use Rattle.device.specs.Step.{step, write, read, measure, sample, alertResponse, tick};
 ghost use Rattle.frame.specs.Frame.{bad, framed, frameOf, outcome};
 ghost use Rattle.frame.specs.Line.{result, Told};
 use super::LineDone;
@@ -115,6 +115,14 @@ fn alert_response(d: Device, b: &[u8], out: &mut [u8]) -> LineDone
     replied(e, reply, n, out)
 }
 
+// 07, alone.
+fn tick(d: Device, out: &mut [u8]) -> LineDone
+    ensures { λ r. ⌜ Told (step d tick) (now (out .entry)) r (now (out .exit)) ⌝ }
+{
+    let e = device::tick(d);
+    unreplied(e, out)
+}
+
 // Bytes that are no frame: ff, and nothing changes.
 fn refuse(d: Device, out: &mut [u8]) -> LineDone
     ensures { λ r. ⌜ Told (outcome d bad) (now (out .entry)) r (now (out .exit)) ⌝ }
@@ -145,6 +153,9 @@ fn run_framed(d: Device, first: u8, b: &[u8], out: &mut [u8]) -> LineDone
     }
     if (first == 0x05) & (n == 2) {
         return alert_response(d, b, out);
+    }
+    if (first == 0x07) & (n == 1) {
+        return tick(d, out);
     }
     refuse(d, out)
 }

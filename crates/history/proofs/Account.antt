@@ -8,7 +8,7 @@ use Rattle.unpaged.specs.Unpaged.{refused}
 use Rattle.writes.specs.Asked.{asked}
 use Rattle.device.specs.declared.Device.{Device}
 use Rattle.device.specs.Device.{alertRisen}
-use Rattle.device.specs.Step.{Call, write, read, measure, alertResponse, effect, refusedDevice, measured}
+use Rattle.device.specs.Step.{Call, write, read, measure, alertResponse, tick, effect, refusedDevice, measured, tickedDevice}
 use Rattle.history.specs.Run.{next, answer}
 use Rattle.history.proofs.Outcomes.{done-next, refused-next, by-answer, write-next, written-energy}
 
@@ -38,3 +38,7 @@ module _ (d : Device) where
   pub alert-keeps : (n : ℕ) → energyOf (next d (alertResponse n)) ≡ energyOf d
   unfolding effect
   alert-keeps n = effect-keeps (alertResponse n) refl
+
+  pub tick-keeps : energyOf (next d tick) ≡ energyOf d
+  unfolding effect tickedDevice
+  tick-keeps = effect-keeps tick refl

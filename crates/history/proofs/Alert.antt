@@ -4,7 +4,7 @@ use Prim.Native.Nat.{ℕ, _<_}
 use mathlib.Core.Path.{_≡_, refl, sym, ap, ap₂, _∙_}
 use mathlib.Core.Logic.{_⊎_, inl, inr, _↔_}
 use mathlib.Core.Bool.{Bool, true, false, _||_, or-false, or-true, and-eq-true-iff, false≢true}
-use mathlib.Core.List.{List}
+use mathlib.Core.List.{List, [], _∷_, map}
 use lib.Dec.{eqb}
 use lib.ListN.{length, getD}
 use borrow.Author.Tests.{eqb-true, eq-eqb}
@@ -12,7 +12,9 @@ use Rattle.laws.specs.Lists.{anyOf, anyPair}
 use Rattle.laws.proofs.Branches.{either}
 use Rattle.laws.proofs.Lists.{any-at, any-found as any-page}
 use Rattle.laws.proofs.Places.{pair-same, pair-at, pair-found}
+use Rattle.page.specs.declared.Page.{Page}
 use Rattle.page.specs.Page.{noPage}
+use Rattle.page.specs.Causes.{moved, ticked}
 use Rattle.page.specs.Status.{any, anyStatus, gains, risen}
 use Rattle.page.proofs.Bits.{gains-found, gains-made, gains-none, any-found, any-made, risen-found, risen-made, risen-none, status-found, status-made}
 use Rattle.unpaged.specs.Unpaged.{refused}
@@ -20,7 +22,7 @@ use Rattle.writes.specs.Asked.{wordOf, asked}
 use Rattle.writes.specs.Left.{clearing}
 use Rattle.device.specs.declared.Device.{Device}
 use Rattle.device.specs.Device.{pageOf, standing, turned, alertRisen, alertStanding}
-use Rattle.device.specs.Step.{Call, write, read, measure, sample, alertResponse, effect, refusedDevice, writtenTo, written, measured}
+use Rattle.device.specs.Step.{Call, write, read, measure, sample, alertResponse, tick, effect, refusedDevice, writtenTo, written, measured, tickedDevice}
 use Rattle.history.specs.Run.{next, answer}
 use Rattle.history.specs.Clearing.{acceptedWrite, reworksAlert, clearingCall}
 use Rattle.history.specs.Accepted.{codeOf}
@@ -83,6 +85,21 @@ kept-raised d e p a = record {
 still-raised : (d e : Device) → e .pages ≡ d .pages → e .unpaged .cml ≡ d .unpaged .cml → e .unpaged .alert ≡ d .unpaged .alert → Raised d e
 still-raised d e p c a = kept-raised d e p (a ∙ rw (c, gains-none (d .unpaged .cml)) (sym (or-false (d .unpaged .alert))))
 
+-- a tick turns no bit
+ticked-risen : (p : Page) → risen p (ticked p) ≡ false
+unfolding ticked moved risen
+ticked-risen p = risen-none p
+
+none-risen : (l : List Page) → anyPair risen l (map ticked l) ≡ false
+none-risen [] = refl
+none-risen (p ∷ l) = rw (ticked-risen p) (none-risen l)
+
+ticked-raised : (d : Device) → Raised d (tickedDevice d)
+unfolding tickedDevice
+ticked-raised d = record {
+  alert = sym (rw (gains-none (d .unpaged .cml), none-risen (d .pages)) (or-false (d .unpaged .alert)));
+}
+
 module _ (d : Device) where
   not-clearing : (s : List ℕ) → answer d (write s) ≡ 0 → clearing (asked s) ≡ clearingCall d (write s)
   unfolding clearingCall asked
@@ -96,6 +113,7 @@ module _ (d : Device) where
   effect-raised (measure page quantity word) z h k = risen-raised d _
   effect-raised (sample n) z h k = still-raised d _ refl refl refl
   effect-raised (alertResponse n) z h k = absurd (false≢true (sym k ∙ eq-eqb (answer d (alertResponse n)) 0 z))
+  effect-raised tick z h k = ticked-raised d
 
   refused-raised : (a : ℕ) → Raised d (refusedDevice d a)
   unfolding refusedDevice refused
@@ -127,6 +145,7 @@ alert-answered d (measure page quantity word) h = absurd (false≢true h)
 alert-answered d (sample n) h = absurd (false≢true h)
 alert-answered d (alertResponse n) h =
     ap (λ (e : Device). e .unpaged .alert) (done-next d (alertResponse n) (eqb-true (answer d (alertResponse n)) 0 h))
+alert-answered d tick h = absurd (false≢true h)
 
 -- ---- after a clearing
 
@@ -149,6 +168,7 @@ module _ (d : Device) where
   clearing-alert (measure page quantity word) h = absurd (false≢true h)
   clearing-alert (sample n) h = absurd (false≢true h)
   clearing-alert (alertResponse n) h = absurd (false≢true h)
+  clearing-alert tick h = absurd (false≢true h)
 
 pub alert-cleared : AlertCleared
 unfolding AlertCleared

@@ -2,7 +2,7 @@
 -- Assumes nothing.
 use Prim.Native.Nat.{ℕ, _<_, _≤_, _%_}
 use mathlib.Core.Path.{_≡_, refl, sym, ap, ap₂, _∙_}
-use mathlib.Core.Bool.{Bool, true, false, not, _&&_, _||_, and-false, or-false, or-assoc, false≢true}
+use mathlib.Core.Bool.{Bool, true, false, cond, not, _&&_, _||_, and-false, or-false, or-assoc, false≢true}
 use mathlib.Core.List.{List, [], _∷_, _++_}
 use native.Mathlib.Omega.{arith}
 use lib.Dec.{eqb, ltb}
@@ -13,13 +13,15 @@ use Rattle.laws.specs.Bits.{bit}
 use Rattle.laws.specs.Lists.{anyOf}
 use Rattle.laws.proofs.Branches.{either}
 use Rattle.cause.specs.Causes.{Limit, causes, faults, warnings, register}
+use Rattle.retry.specs.Machines.{allAtCall, allAtTick}
 use Rattle.page.specs.declared.Page.{Page}
-use Rattle.page.specs.Causes.{crossed, presentCauses, present, staysOff, shutDown, offWhileLasts, settled}
+use Rattle.page.specs.Page.{resting}
+use Rattle.page.specs.Causes.{crossed, presentCauses, present, moved, settled, ticked}
 use Rattle.page.specs.Latching.{statusBit, caused}
-use Rattle.page.specs.Settings.{pageValid, setOperation, setVoutCommand, setLimit, setResponse, setMeasurement, clearBits}
+use Rattle.page.specs.Settings.{pageValid, switchesOff, setOperation, setVoutCommand, setLimit, setResponse, setMeasurement, clearBits}
 use Rattle.page.specs.Status.{supplies}
 use Rattle.page.proofs.Setters.{clear-bit}
-use Rattle.page.proofs.Settled.{UpToDate, settled-bit}
+use Rattle.page.proofs.Settled.{UpToDate, settled-bit, current-trip}
 use Rattle.writes.specs.declared.asked.Setting.{Setting}
 use Rattle.writes.specs.declared.asked.Write.{Write}
 use Rattle.writes.specs.Asked.{pageMasks}
@@ -65,8 +67,16 @@ module _ (p q : Page) (a : AlikePages p q) where
         fault-limit 5 (omega arith),
       )
 
-  pub shut-alike : shutDown p ≡ shutDown q
-  shut-alike = ap₂ staysOff causes-alike (a .responses)
+  pub called-alike : allAtCall (p .responses) (presentCauses p) (p .machines) ≡ allAtCall (q .responses) (presentCauses q) (q .machines)
+  called-alike = rw (causes-alike, a .responses, a .machines)
+
+  pub ticked-machines : allAtTick (p .responses) (presentCauses p) (p .machines) ≡ allAtTick (q .responses) (presentCauses q) (q .machines)
+  ticked-machines = rw (causes-alike, a .responses, a .machines)
+
+  -- the trip of a step that leaves the same machines
+  pub trip-alike : (l m : List ℕ) → l ≡ m → moved p l .tripped ≡ moved q m .tripped
+  unfolding moved
+  trip-alike l m e = rw (causes-alike, a .tripped, a .responses, a .machines, e)
 
 -- a bit that is no warning's has causes alone
 module _ (j k : ℕ) where
@@ -93,33 +103,48 @@ module _ (j k : ℕ) where
 -- ---- changes
 
 pub settled-alike : (p q : Page) → AlikePages p q → AlikePages (settled p) (settled q)
-unfolding settled
+unfolding settled moved
 settled-alike p q a = record {
   operation = a .operation;
   command = a .command;
   limits = a .limits;
   responses = a .responses;
+  machines = called-alike p q a;
   words = a .words;
   measured = a .measured;
   bits = λ j k h n. settled-bit p j k h ∙ ap₂ _||_ (a .bits j k h n) (caused-alike j k p q a n) ∙ sym (settled-bit q j k h);
-  tripped = ap₂ _||_ (a .tripped) (shut-alike p q a);
+  tripped = trip-alike p q a _ _ (called-alike p q a);
+}
+
+pub ticked-alike : (p q : Page) → AlikePages p q → AlikePages (ticked p) (ticked q)
+unfolding ticked moved
+ticked-alike p q a = record {
+  operation = a .operation;
+  command = a .command;
+  limits = a .limits;
+  responses = a .responses;
+  machines = ticked-machines p q a;
+  words = a .words;
+  measured = a .measured;
+  bits = a .bits;
+  tripped = trip-alike p q a _ _ (ticked-machines p q a);
 }
 
 -- brought up to date, a page is like one that is
 pub current-alike : (p q : Page) → AlikePages p q → UpToDate q → AlikePages (settled p) q
-unfolding settled
+unfolding settled moved
 current-alike p q a g = record {
   operation = a .operation;
   command = a .command;
   limits = a .limits;
   responses = a .responses;
+  machines = called-alike p q a ∙ g .begun;
   words = a .words;
   measured = a .measured;
   bits = λ j k h n.
       settled-bit p j k h ∙ ap₂ _||_ (a .bits j k h n) (caused-alike j k p q a n)
       ∙ either (caused q j k) (λ y. rw (y, g .latched j k h y)) (λ y. rw (y, or-false (statusBit q j k)));
-  tripped = ap₂ _||_ (a .tripped) (shut-alike p q a)
-      ∙ either (shutDown q) (λ y. rw (y, g .tripped y)) (λ y. rw (y, or-false (q .tripped)));
+  tripped = trip-alike p q a _ _ (called-alike p q a) ∙ current-trip q g;
 }
 
 applied-alike : (s : Setting) (p q : Page) → AlikePages p q → AlikePages (applied s p) (applied s q)
@@ -129,16 +154,18 @@ applied-alike (Setting.Operation x) p q a = record {
   command = a .command;
   limits = a .limits;
   responses = a .responses;
+  machines = ap (λ (l : List ℕ). cond (switchesOff x) resting l) (a .machines);
   words = a .words;
   measured = a .measured;
   bits = a .bits;
-  tripped = ap (λ (b : Bool). b && not (eqb x 0x00) && not (eqb x 0x40)) (a .tripped);
+  tripped = ap (λ (b : Bool). b && not (switchesOff x)) (a .tripped);
 }
 applied-alike (Setting.VoutCommand w) p q a = record {
   operation = a .operation;
   command = refl;
   limits = a .limits;
   responses = a .responses;
+  machines = a .machines;
   words = a .words;
   measured = a .measured;
   bits = a .bits;
@@ -149,6 +176,7 @@ applied-alike (Setting.Limit k w) p q a = record {
   command = a .command;
   limits = take-set 6 (p .limits) (q .limits) (k % 11) w (a .limits);
   responses = a .responses;
+  machines = a .machines;
   words = a .words;
   measured = a .measured;
   bits = a .bits;
@@ -159,6 +187,7 @@ applied-alike (Setting.Response k x) p q a = record {
   command = a .command;
   limits = a .limits;
   responses = ap (λ (l : List ℕ). set l (k % 6) x) (a .responses);
+  machines = ap (λ (l : List ℕ). set l (k % 6) 0) (a .machines);
   words = a .words;
   measured = a .measured;
   bits = a .bits;
@@ -172,6 +201,7 @@ cleared-alike ms p q a = record {
   command = a .command;
   limits = a .limits;
   responses = a .responses;
+  machines = a .machines;
   words = a .words;
   measured = a .measured;
   bits = λ j k h n.
@@ -190,6 +220,7 @@ measured-alike quantity word p q a = settled-alike (setMeasurement p quantity wo
       command = a .command;
       limits = a .limits;
       responses = a .responses;
+      machines = a .machines;
       words = ap (λ (l : List ℕ). set l (quantity % 4) word) (a .words);
       measured = ap (λ (l : List Bool). set l (quantity % 4) true) (a .measured);
       bits = a .bits;
@@ -214,6 +245,7 @@ alike-self p = record {
   command = refl;
   limits = refl;
   responses = refl;
+  machines = refl;
   words = refl;
   measured = refl;
   bits = λ j k h n. refl;
@@ -231,6 +263,7 @@ warn-limit-alike k w p low high g = current-alike (applied (Setting.Limit k w) p
       command = refl;
       limits = take-set-le 6 (p .limits) (k % 11) w (omega arith);
       responses = refl;
+      machines = refl;
       words = refl;
       measured = refl;
       bits = λ j k h n. refl;
@@ -241,10 +274,9 @@ warn-limit-alike k w p low high g = current-alike (applied (Setting.Limit k w) p
 
 pub valid-alike : (p q : Page) → AlikePages p q → pageValid p ≡ pageValid q
 unfolding pageValid
-valid-alike p q a = rw (a .operation, a .responses)
+valid-alike p q a = rw (a .operation, a .responses, a .machines)
 
 pub supply-alike : SupplyAlike
 unfolding SupplyAlike supplies
 supply-alike p q a =
-    ap₂ _&&_ (ap₂ (λ (x : ℕ) (t : Bool). eqb x 0x80 && not t) (a .operation) (a .tripped))
-    (ap not (ap₂ offWhileLasts (causes-alike p q a) (a .responses)))
+    rw (causes-alike p q a, a .operation, a .tripped, a .responses, a .machines)

@@ -11,6 +11,7 @@ use Rattle.history.proofs.Outcomes.{refused-call, takes-effect}
 use Rattle.history.proofs.PageAfter.{pages-stay}
 use Rattle.history.proofs.ReadBack.{stored-codes, written-back, write-then-read, measured-back}
 use Rattle.history.proofs.Refusals.{unchanged}
+use Rattle.history.proofs.Retry.{tick-quiet, stays-down, lets-on-again, lets-on-by-ticks}
 use Rattle.history.proofs.Runs.{reached-whole}
 use Rattle.history.proofs.Tripping.{tripped, stays-tripped, trips}
 use Rattle.history.proofs.AlikePages.{supply-alike}
@@ -43,6 +44,10 @@ claims =
       tripped = tripped;
       stays-tripped = stays-tripped;
       trips = trips;
+      tick-quiet = tick-quiet;
+      stays-down = stays-down;
+      lets-on-again = lets-on-again;
+      lets-on-by-ticks = lets-on-by-ticks;
       stay-alike = stay-alike;
       reply-alike = reply-alike;
       warn-limits-aside = warn-limits-aside;

@@ -15,7 +15,7 @@ use Rattle.writes.specs.Asked.{wordOf, asked}
 use Rattle.writes.specs.Left.{unpagedLeft}
 use Rattle.device.specs.declared.Device.{Device}
 use Rattle.device.specs.Device.{alertRisen}
-use Rattle.device.specs.Step.{Call, write, read, measure, sample, alertResponse, effect, refusedDevice, measured}
+use Rattle.device.specs.Step.{Call, write, read, measure, sample, alertResponse, tick, effect, refusedDevice, measured, tickedDevice}
 use Rattle.history.specs.Run.{next, answer, cmlBit}
 use Rattle.history.specs.Clearing.{acceptedWrite, clearsStatusCml, clearsCml, FallsCml}
 use Rattle.history.specs.Latching.{LatchesCml}
@@ -66,12 +66,13 @@ module _ (d : Device) (k : ℕ) where
       (cleared-cml-code code x (wordOf x (getD s 3 0)) k ∙ sym (accepted-test d s (λ code x. clearsStatusCml code x k) z)))
 
   answered-bit : (c : Call) → answer d c ≡ 0 → Claim c
-  unfolding acceptedWrite effect measured alertRisen
+  unfolding acceptedWrite effect measured alertRisen tickedDevice
   answered-bit (write s) z = written-bit s z
   answered-bit (read header n) z = keeps (read header n) z refl (λ t. refl)
   answered-bit (measure page quantity word) z = keeps (measure page quantity word) z refl (λ t. refl)
   answered-bit (sample n) z = keeps (sample n) z refl (λ t. refl)
   answered-bit (alertResponse n) z = keeps (alertResponse n) z refl (λ t. refl)
+  answered-bit tick z = keeps tick z refl (λ t. refl)
 
   refused-bit : (c : Call) → (answer d c ≡ 0 → ⊥) → Claim c
   unfolding refusedDevice refused clearsCml

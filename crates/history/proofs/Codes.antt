@@ -1,6 +1,6 @@
 -- What a write of each code clears and untrips, and that a response's number is below 6: what `commandOf` and `writeOf` say of every code.
 -- Assumes nothing.
-use Prim.Native.Nat.{ℕ, zero, suc, _+_, _-_, _<_, _≤_}
+use Prim.Native.Nat.{ℕ, zero, suc, _+_, _-_, _%_, _<_, _≤_}
 use mathlib.Core.Path.{_≡_, refl, sym, ap, _∙_}
 use mathlib.Core.Bool.{Bool, true, false, _&&_, _||_, or-false, or-true, false≢true}
 use mathlib.Core.List.{[], _∷_}
@@ -12,6 +12,7 @@ use Rattle.laws.specs.Bits.{bit}
 use Rattle.laws.proofs.Branches.{either, cond-same, cond-apply}
 use Rattle.laws.proofs.Bits.{cond-bit, zero-bit}
 use Rattle.laws.proofs.Every.{agree}
+use Rattle.cause.specs.Causes.{causes, warnings}
 use Rattle.command.specs.declared.meaning.Command.{Command}
 use Rattle.command.specs.declared.meaning.Command.the-variants.{Status}
 use Rattle.command.specs.Meaning.{commandOf, settingOf, faultOf, readingOf}
@@ -23,6 +24,7 @@ use Rattle.writes.specs.Asked.{pageMasks, clearFaults, registerMasks, clearStat
 use Rattle.writes.specs.Left.{clearing}
 use Rattle.history.specs.Clearing.{clearsPage, clearsStatusCml, reworksAlert}
 use Rattle.history.specs.Tripping.{untripping}
+use Rattle.history.specs.Retry.{resting}
 
 -- of a write: the page bits that it clears, the bits of STATUS_CML,
 abbrev pub clearedBit : Write → ℕ → ℕ → Bool
@@ -55,6 +57,21 @@ untripsBy (Write.Protect x) = false
 untripsBy (Write.Change s) = switchesOff s
 untripsBy (Write.Clear m) = false
 untripsBy (Write.ClearCml m) = false
+
+-- the machines that it puts to rest,
+abbrev pub restsSetting : Setting → ℕ → Bool
+restsSetting (Setting.Operation x) k = eqb x 0x00 || eqb x 0x40
+restsSetting (Setting.VoutCommand w) k = false
+restsSetting (Setting.Limit m w) k = false
+restsSetting (Setting.Response m x) k = eqb k (m % 6)
+
+abbrev pub restsBy : Write → ℕ → Bool
+restsBy Write.Nothing k = false
+restsBy (Write.SelectPage x) k = false
+restsBy (Write.Protect x) k = false
+restsBy (Write.Change s) k = restsSetting s k
+restsBy (Write.Clear m) k = false
+restsBy (Write.ClearCml m) k = false
 
 -- and that a response which it sets is one of six
 abbrev pub smallSetting : Setting → Bool
@@ -104,6 +121,10 @@ module _ (m x : ℕ) where
   status-kind : (clearing (clearStatus m x) ≡ true) × (untripsBy (clearStatus m x) ≡ false) × (smallResponse (clearStatus m x) ≡ true)
   unfolding clearStatus clearing
   status-kind = either (eqb m 4) (λ y. rw y (refl, refl, refl)) (λ n. rw n (refl, refl, refl))
+
+  status-rests : (k : ℕ) → restsBy (clearStatus m x) k ≡ false
+  unfolding clearStatus
+  status-rests k = either (eqb m 4) (λ y. rw y) (λ n. rw n)
 
 -- the place of a code from 7Ah on
 place : (code j : ℕ) → 0x7A ≤ code → eqb (code - 0x7A) j ≡ eqb code (0x7A + j)
@@ -160,3 +181,67 @@ module _ (code x w : ℕ) where
   unfolding otherOf settingOf faultOf readingOf writeOf clearFaults
   response-code =
       by-register (λ c. smallResponse (writeOf c x w)) true (λ y. status-kind (code - 0x7A) x .2) (λ n. simp (cond-apply (λ c. smallResponse (writeOf c x w)), cond-same))
+
+  -- which machines are put to rest: each by OPERATION, and by the code of its response
+  module _ (k r : ℕ) (of : (code : ℕ) → resting k code x ≡ (untripping code x || eqb code r)) (low : 0x40 ≤ r) (high : r < 0x5B) where
+    rests-by : (eqb code r ≡ true → isStatus code ≡ false → restsBy (writeOf (otherOf code) x w) k ≡ true)
+        → (eqb code 0x01 ≡ false → eqb code r ≡ false → isStatus code ≡ false → restsBy (writeOf (otherOf code) x w) k ≡ false)
+        → restsBy (writeOf (commandOf code) x w) k ≡ resting k code x
+    unfolding otherOf settingOf writeOf
+    rests-by own other =
+        by-register (λ c. restsBy (writeOf c x w) k) (resting k code x)
+        (λ y. let b = status-bounds code y in
+        status-rests (code - 0x7A) x k ∙ sym (of code ∙ rw (ne-eqb code 0x01 (λ e. omega arith), ne-eqb code r (λ e. omega arith))))
+        (λ n. either (eqb code 0x01)
+        (λ e. let same = eqb-true code 0x01 e in
+        rw (of code, same, ne-eqb 0x01 r (λ z. omega arith)) (sym (or-false (eqb x 0x00 || eqb x 0x40))))
+        (λ e. either (eqb code r) (λ y. own y n ∙ sym (of code ∙ rw (e, y))) (λ y. other e y n ∙ sym (of code ∙ rw (e, y)))))
+
+  rests-at : (k r : ℕ) → Type 0
+  rests-at k r = restsBy (writeOf (commandOf code) x w) k ≡ resting k code x
+
+  rests-0 : rests-at 0 0x41
+  unfolding rests-at resting causes warnings otherOf settingOf faultOf readingOf writeOf clearFaults
+  rests-0 =
+      rests-by 0 0x41 (λ c. refl) (omega arith) (omega arith) (λ y n. rw (eqb-true code 0x41 y))
+      (λ a e n. simp (a, e, cond-apply (λ c. restsBy (writeOf c x w) 0), cond-same))
+
+  rests-1 : rests-at 1 0x47
+  unfolding rests-at resting causes warnings otherOf settingOf faultOf readingOf writeOf clearFaults
+  rests-1 =
+      rests-by 1 0x47 (λ c. refl) (omega arith) (omega arith) (λ y n. rw (eqb-true code 0x47 y))
+      (λ a e n. simp (a, e, cond-apply (λ c. restsBy (writeOf c x w) 1), cond-same))
+
+  rests-2 : rests-at 2 0x50
+  unfolding rests-at resting causes warnings otherOf settingOf faultOf readingOf writeOf clearFaults
+  rests-2 =
+      rests-by 2 0x50 (λ c. refl) (omega arith) (omega arith) (λ y n. rw (eqb-true code 0x50 y))
+      (λ a e n. simp (a, e, cond-apply (λ c. restsBy (writeOf c x w) 2), cond-same))
+
+  rests-3 : rests-at 3 0x54
+  unfolding rests-at resting causes warnings otherOf settingOf faultOf readingOf writeOf clearFaults
+  rests-3 =
+      rests-by 3 0x54 (λ c. refl) (omega arith) (omega arith) (λ y n. rw (eqb-true code 0x54 y))
+      (λ a e n. simp (a, e, cond-apply (λ c. restsBy (writeOf c x w) 3), cond-same))
+
+  rests-4 : rests-at 4 0x56
+  unfolding rests-at resting causes warnings otherOf settingOf faultOf readingOf writeOf clearFaults
+  rests-4 =
+      rests-by 4 0x56 (λ c. refl) (omega arith) (omega arith) (λ y n. rw (eqb-true code 0x56 y))
+      (λ a e n. simp (a, e, cond-apply (λ c. restsBy (writeOf c x w) 4), cond-same))
+
+  rests-5 : rests-at 5 0x5A
+  unfolding rests-at resting causes warnings otherOf settingOf faultOf readingOf writeOf clearFaults
+  rests-5 =
+      rests-by 5 0x5A (λ c. refl) (omega arith) (omega arith) (λ y n. rw (eqb-true code 0x5A y))
+      (λ a e n. simp (a, e, cond-apply (λ c. restsBy (writeOf c x w) 5), cond-same))
+
+  pub rests-code : (k : ℕ) → k < 6 → restsBy (writeOf (commandOf code) x w) k ≡ resting k code x
+  unfolding rests-at
+  rests-code zero h = rests-0
+  rests-code (suc zero) h = rests-1
+  rests-code (suc (suc zero)) h = rests-2
+  rests-code (suc (suc (suc zero))) h = rests-3
+  rests-code (suc (suc (suc (suc zero)))) h = rests-4
+  rests-code (suc (suc (suc (suc (suc zero))))) h = rests-5
+  rests-code (suc (suc (suc (suc (suc (suc k)))))) h = absurd (omega arith)

@@ -14,7 +14,7 @@ use Rattle.laws.proofs.Places.{map-at, map-kept, map-past}
 use Rattle.command.specs.Meaning.{commandOf, settingOf, faultOf, readingOf}
 use Rattle.page.specs.declared.Page.{Page}
 use Rattle.page.specs.Page.{noPage}
-use Rattle.page.specs.Causes.{settled}
+use Rattle.page.specs.Causes.{moved, settled, ticked}
 use Rattle.page.specs.Settings.{setMeasurement, setOperation, setVoutCommand, setLimit, setResponse, clearBits}
 use Rattle.page.specs.Status.{reading}
 use Rattle.unpaged.specs.declared.Unpaged.{Unpaged}
@@ -26,12 +26,12 @@ use Rattle.writes.specs.Asked.{clearFaults, writeOf, wordOf, asked, clearStatus
 use Rattle.writes.specs.Left.{applied, changed, cleared, pageLeft, unpagedLeft, clearing}
 use Rattle.device.specs.declared.Device.{Device}
 use Rattle.device.specs.Device.{pageOf, alertRisen, alertStanding}
-use Rattle.device.specs.Step.{Call, write, read, measure, sample, alertResponse, answerOf, effect, step, written, measured}
+use Rattle.device.specs.Step.{Call, write, read, measure, sample, alertResponse, tick, answerOf, effect, step, written, measured, tickedDevice}
 use Rattle.device.proofs.States.{answer-zero}
 use Rattle.history.specs.Run.{next, answer}
 use Rattle.history.specs.Accepted.{codeOf}
-use Rattle.history.specs.Effects.{OnlyQuantity, OnlyMeasured, OnlyWritten, Leaves, Effects}
-use Rattle.history.proofs.Outcomes.{done-next, write-next, written-pages, written-energy, measured-pages}
+use Rattle.history.specs.Effects.{OnlyQuantity, OnlyMeasured, OnlyWritten, OnlyMachines, Leaves, Effects}
+use Rattle.history.proofs.Outcomes.{done-next, write-next, written-pages, written-energy, measured-pages, ticked-page-at}
 use Rattle.history.proofs.Runs.{same-length}
 
 -- ---- measurements
@@ -45,7 +45,7 @@ in-range n page quantity z =
     (λ b. let small = leb-false n page a in let few = ltb-false 3 quantity b in (omega arith, omega arith)))
 
 only-quantity : (p : Page) (quantity word : ℕ) → quantity < 4 → OnlyQuantity quantity p (settled (setMeasurement p quantity word))
-unfolding settled setMeasurement reading
+unfolding settled moved setMeasurement reading
 only-quantity p quantity word few =
     record {
       operation = refl;
@@ -101,7 +101,7 @@ applied-reading (Setting.Limit k w) p q = refl
 applied-reading (Setting.Response k x) p q = refl
 
 settled-reading : (p : Page) (q : ℕ) → reading (settled p) q ≡ reading p q
-unfolding settled reading
+unfolding settled moved reading
 settled-reading p q = refl
 
 left-reading : (w : Write) (p : Page) (q : ℕ) → reading (pageLeft w p) q ≡ reading p q
@@ -183,6 +183,16 @@ module _ (d : Device) (s : List ℕ) (z : answer d (write s) ≡ 0) where
         readings = λ i q. ap (λ (e : Device). reading (pageOf e i) q) (write-next d s z) ∙ written-reading d (asked s) i q;
       }
 
+-- ---- ticks
+
+pub only-machines : (p : Page) → OnlyMachines p (ticked p)
+unfolding ticked moved
+only-machines p = record { operation = refl; command = refl; limits = refl; responses = refl; words = refl; measured = refl; status = refl }
+
+ticked-unpaged : (d : Device) → answer d tick ≡ 0 → next d tick .unpaged ≡ d .unpaged
+unfolding effect tickedDevice
+ticked-unpaged d z = ap (λ (e : Device). e .unpaged) (done-next d tick z)
+
 -- ---- every kind
 
 pub effects : Effects
@@ -208,3 +218,8 @@ effects d (alertResponse n) z =
       energy = ap (λ (e : Device). e .unpaged .energy) done;
       pages = ap (λ (e : Device). e .pages) done;
     }
+effects d tick z = record {
+  unpaged = ticked-unpaged d z;
+  number = same-length d tick;
+  pages = λ i h. rw (ticked-page-at d z i h) (only-machines (pageOf d i));
+}

@@ -19,13 +19,13 @@ use Rattle.reads.specs.Answers.{answersData}
 use Rattle.reads.specs.Data.{readData, checked, readStream}
 use Rattle.device.specs.declared.Device.{Device}
 use Rattle.device.specs.Device.{powerOn, deviceValid}
-use Rattle.device.specs.Step.{Call, write, read, measure, sample, alertResponse, answerOf, answered, effect, sent, step}
+use Rattle.device.specs.Step.{Call, write, read, measure, sample, alertResponse, tick, answerOf, answered, effect, sent, step}
 use Rattle.history.specs.Run.{next, answer}
 use Rattle.history.specs.Accepted.{codeOf}
 use Rattle.history.specs.Energy.{Turn, isEnergyReply, partOf, part, logPart, logAfter, CopiesOf, TrueCopies, Demand3}
 use Rattle.device.proofs.States.{answer-zero}
 use Rattle.history.proofs.Outcomes.{done-next, by-answer}
-use Rattle.history.proofs.Account.{energyOf, refused-keeps, write-keeps, read-keeps, measure-keeps, alert-keeps}
+use Rattle.history.proofs.Account.{energyOf, refused-keeps, write-keeps, read-keeps, measure-keeps, alert-keeps, tick-keeps}
 
 -- ---- an energy reply is the account's
 
@@ -69,6 +69,7 @@ module _ (d : Device) (l : Log) (g : Good (energyOf d) l) where
   after-call (measure page quantity word) cs m = rw (measure-keeps d page quantity word) g
   after-call (sample n) cs m = after-sampled n
   after-call (alertResponse n) cs m = rw (alert-keeps d n) g
+  after-call tick cs m = rw (tick-keeps d) g
 
 -- ---- a list of them
 

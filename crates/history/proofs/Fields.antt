@@ -18,7 +18,7 @@ use Rattle.command.specs.Causes.{CausesAgree}
 use Rattle.command.proofs.Causes.{causes-agree}
 use Rattle.page.specs.declared.Page.{Page}
 use Rattle.page.specs.Page.{powerOnPage}
-use Rattle.page.specs.Causes.{settled}
+use Rattle.page.specs.Causes.{moved, settled, ticked}
 use Rattle.page.specs.Settings.{setMeasurement, setOperation, setVoutCommand, setLimit, setResponse, clearBits}
 use Rattle.page.specs.Status.{reading}
 use Rattle.writes.specs.declared.asked.Setting.{Setting}
@@ -57,21 +57,25 @@ module _ (p : Page) (z : Sized p) where
   }
 
   pub settled-sized : Sized (settled p)
-  unfolding settled
+  unfolding settled moved
   settled-sized = record { limits = z .limits; responses = z .responses; words = z .words; measured = z .measured }
 
   cleared-sized : (ms : List ℕ) → Sized (settled (clearBits p ms))
-  unfolding settled clearBits
+  unfolding settled moved clearBits
   cleared-sized ms = record { limits = z .limits; responses = z .responses; words = z .words; measured = z .measured }
 
   pub measured-sized : (q w : ℕ) → Sized (settled (setMeasurement p q w))
-  unfolding settled setMeasurement
+  unfolding settled moved setMeasurement
   measured-sized q w = record {
     limits = z .limits;
     responses = z .responses;
     words = length-set (p .words) (q % 4) w ∙ z .words;
     measured = length-set (p .measured) (q % 4) true ∙ z .measured;
   }
+
+pub ticked-sized : (p : Page) → Sized p → Sized (ticked p)
+unfolding ticked moved
+ticked-sized p z = record { limits = z .limits; responses = z .responses; words = z .words; measured = z .measured }
 
 pub left-sized : (p : Page) → Sized p → (w : Write) → Sized (pageLeft w p)
 unfolding pageLeft changed cleared
@@ -110,7 +114,7 @@ responseNumber (Write.ClearCml m) = 6
 module _ (p : Page) (z : Sized p) (k : ℕ) (small : k < 11) where
   -- a write that sets no other limit than k leaves it
   other-limit : (w : Write) → eqb (limitNumber w) k ≡ false → getD (pageLeft w p .limits) k 0 ≡ getD (p .limits) k 0
-  unfolding pageLeft changed cleared settled clearBits applied setOperation setVoutCommand setLimit setResponse
+  unfolding pageLeft changed cleared settled moved clearBits applied setOperation setVoutCommand setLimit setResponse
   other-limit Write.Nothing n = refl
   other-limit (Write.SelectPage x) n = refl
   other-limit (Write.Protect x) n = refl
@@ -124,7 +128,7 @@ module _ (p : Page) (z : Sized p) (k : ℕ) (small : k < 11) where
 
   -- limit k, set
   own-limit : (w : ℕ) → getD (pageLeft (Write.Change (Setting.Limit k w)) p .limits) k 0 ≡ w
-  unfolding pageLeft changed settled applied setLimit
+  unfolding pageLeft changed settled moved applied setLimit
   own-limit w =
       let same : k % 11 ≡ k = omega arith in
       let long = z .limits in
@@ -133,7 +137,7 @@ module _ (p : Page) (z : Sized p) (k : ℕ) (small : k < 11) where
 module _ (p : Page) (z : Sized p) (k : ℕ) (small : k < 6) where
   -- so with responses
   other-response : (w : Write) → eqb (responseNumber w) k ≡ false → getD (pageLeft w p .responses) k 0 ≡ getD (p .responses) k 0
-  unfolding pageLeft changed cleared settled clearBits applied setOperation setVoutCommand setLimit setResponse
+  unfolding pageLeft changed cleared settled moved clearBits applied setOperation setVoutCommand setLimit setResponse
   other-response Write.Nothing n = refl
   other-response (Write.SelectPage x) n = refl
   other-response (Write.Protect x) n = refl
@@ -146,7 +150,7 @@ module _ (p : Page) (z : Sized p) (k : ℕ) (small : k < 6) where
   other-response (Write.ClearCml m) n = refl
 
   own-response : (x : ℕ) → getD (pageLeft (Write.Change (Setting.Response k x)) p .responses) k 0 ≡ x
-  unfolding pageLeft changed settled applied setResponse
+  unfolding pageLeft changed settled moved applied setResponse
   own-response x =
       let same : k % 6 ≡ k = omega arith in
       let long = z .responses in
@@ -168,11 +172,11 @@ response-number x w k c hk hc =
 -- a write to a status register leaves the settings alone
 module _ (p : Page) (m x : ℕ) where
   status-operation : pageLeft (clearStatus m x) p .operation ≡ p .operation
-  unfolding pageLeft cleared settled clearBits clearStatus
+  unfolding pageLeft cleared settled moved clearBits clearStatus
   status-operation = either (eqb m 4) (λ y. rw y) (λ n. rw n)
 
   status-command : pageLeft (clearStatus m x) p .command ≡ p .command
-  unfolding pageLeft cleared settled clearBits clearStatus
+  unfolding pageLeft cleared settled moved clearBits clearStatus
   status-command = either (eqb m 4) (λ y. rw y) (λ n. rw n)
 
 module _ (code x w : ℕ) where
@@ -180,12 +184,12 @@ module _ (code x w : ℕ) where
   after p = pageLeft (writeOf (commandOf code) x w) p
 
   pub operation-code : (p : Page) → after p .operation ≡ cond (eqb code 0x01) x (p .operation)
-  unfolding commandOf settingOf faultOf readingOf writeOf clearFaults pageLeft changed cleared settled clearBits applied setOperation setVoutCommand setLimit setResponse
+  unfolding commandOf settingOf faultOf readingOf writeOf clearFaults pageLeft changed cleared settled moved clearBits applied setOperation setVoutCommand setLimit setResponse
   operation-code p =
       either (eqb code 0x01) (λ y. rw (eqb-true code 0x01 y)) (λ n. simp (n, cond-apply (λ c. pageLeft (writeOf c x w) p .operation), status-operation p, cond-same))
 
   pub command-code : (p : Page) → after p .command ≡ cond (eqb code 0x21) w (p .command)
-  unfolding commandOf settingOf faultOf readingOf writeOf clearFaults pageLeft changed cleared settled clearBits applied setOperation setVoutCommand setLimit setResponse
+  unfolding commandOf settingOf faultOf readingOf writeOf clearFaults pageLeft changed cleared settled moved clearBits applied setOperation setVoutCommand setLimit setResponse
   command-code p =
       either (eqb code 0x21) (λ y. rw (eqb-true code 0x21 y)) (λ n. simp (n, cond-apply (λ c. pageLeft (writeOf c x w) p .command), status-command p, cond-same))
 
@@ -213,7 +217,7 @@ module _ (code x w : ℕ) where
 
 pub measured-reading : (p : Page) → Sized p → (quantity word q : ℕ) → quantity < 4 → q < 4
     → reading (settled (setMeasurement p quantity word)) q ≡ cond (eqb quantity q) word (reading p q)
-unfolding settled setMeasurement reading
+unfolding settled moved setMeasurement reading
 measured-reading p z quantity word q small few =
     either (eqb quantity q)
     (λ y. let same = eqb-true quantity q y in

@@ -1,7 +1,7 @@
 -- What a call leaves, by its answer, and the parts of what an accepted write and a measurement leave.
 -- Assumes nothing.
-use Prim.Native.Nat.{ℕ}
-use mathlib.Core.Path.{_≡_, refl, sym, _∙_}
+use Prim.Native.Nat.{ℕ, _<_}
+use mathlib.Core.Path.{_≡_, refl, sym, ap, _∙_}
 use mathlib.Core.Bool.{true, false, _||_}
 use mathlib.Core.List.{List}
 use lib.Dec.{eqb}
@@ -9,7 +9,10 @@ use lib.ListN.{length}
 use borrow.Author.Tests.{eqb-true, eqb-false, eq-eqb, ne-eqb}
 use Rattle.laws.specs.Lists.{mapAt}
 use Rattle.laws.proofs.Branches.{either}
-use Rattle.page.specs.Causes.{settled}
+use Rattle.laws.proofs.Places.{map-at}
+use Rattle.laws.proofs.Sweeps.{map-every}
+use Rattle.page.specs.Page.{noPage}
+use Rattle.page.specs.Causes.{settled, ticked}
 use Rattle.page.specs.Settings.{setMeasurement}
 use Rattle.unpaged.specs.Unpaged.{actsOn, unpagedValid}
 use Rattle.writes.specs.declared.asked.Write.{Write}
@@ -17,8 +20,8 @@ use Rattle.writes.specs.Asked.{asked}
 use Rattle.writes.specs.Left.{pageLeft, unpagedLeft, clearing}
 use Rattle.writes.proofs.Kept.{energy-kept}
 use Rattle.device.specs.declared.Device.{Device}
-use Rattle.device.specs.Device.{deviceValid, turned, alertRisen, alertStanding}
-use Rattle.device.specs.Step.{Call, write, answerOf, answered, effect, refusedDevice, left, step, written, writtenTo, measured}
+use Rattle.device.specs.Device.{deviceValid, pageOf, turned, alertRisen, alertStanding}
+use Rattle.device.specs.Step.{Call, write, tick, answerOf, answered, effect, refusedDevice, left, step, written, writtenTo, measured, tickedDevice}
 use Rattle.device.proofs.States.{answered-of}
 use Rattle.history.specs.Run.{next, answer}
 use Rattle.history.specs.Refusals.{Refused}
@@ -97,3 +100,14 @@ pub measured-pages : (d : Device) (page quantity word : ℕ)
     → measured d page quantity word .pages ≡ mapAt (eqb page) (λ p. settled (setMeasurement p quantity word)) (d .pages)
 unfolding measured alertRisen
 measured-pages d page quantity word = refl
+
+-- ---- ticks
+
+pub ticked-pages : (d : Device) → tickedDevice d .pages ≡ mapAt (λ i. true) ticked (d .pages)
+unfolding tickedDevice
+ticked-pages d = sym (map-every (λ i. true) ticked (d .pages) (λ i. refl))
+
+pub ticked-page-at : (d : Device) → answer d tick ≡ 0 → (i : ℕ) → i < length (d .pages) → pageOf (next d tick) i ≡ ticked (pageOf d i)
+unfolding effect
+ticked-page-at d z i small =
+    ap (λ (e : Device). pageOf e i) (done-next d tick z) ∙ rw (ticked-pages d) (map-at noPage (λ i. true) ticked (d .pages) i small)

@@ -1,31 +1,32 @@
 -- What every state of a run from power-on has: its pages, each up to date with its present causes.
 -- Assumes nothing.
-use Prim.Native.Nat.{ℕ, _<_}
+use Prim.Native.Nat.{ℕ, zero, suc, _<_}
 use mathlib.Core.Path.{_≡_, refl, sym, ap, _∙_, subst}
-use mathlib.Core.Bool.{Bool}
+use mathlib.Core.Bool.{Bool, true}
 use mathlib.Core.List.{List, [], _∷_}
 use lib.Dec.{eqb}
-use lib.ListN.{length, length-replicate}
-use Rattle.laws.proofs.Lists.{replicate-each}
+use native.Mathlib.Nat.{not-suc-le-zero, le-of-suc-le-suc}
+use lib.ListN.{length, getD, replicate, length-replicate}
 use Rattle.laws.proofs.Places.{length-map-at}
 use Rattle.page.specs.declared.Page.{Page}
 use Rattle.page.specs.Page.{powerOnPage, noPage}
-use Rattle.page.specs.Causes.{settled}
+use Rattle.page.specs.Causes.{settled, ticked}
 use Rattle.page.specs.Settings.{setMeasurement}
-use Rattle.page.proofs.Settled.{UpToDate, settled-current, powered-current, none-current}
+use Rattle.page.proofs.Settled.{UpToDate, current-ready, settled-current, ticked-current, powered-current}
 use Rattle.unpaged.specs.Unpaged.{actsOn}
 use Rattle.writes.specs.Asked.{asked}
 use Rattle.writes.specs.Left.{pageLeft}
 use Rattle.device.specs.declared.Device.{Device}
 use Rattle.device.specs.Device.{powerOn, pageOf}
-use Rattle.device.specs.Step.{Call, write, read, measure, sample, alertResponse, effect, refusedDevice}
+use Rattle.device.specs.Step.{Call, write, read, measure, sample, alertResponse, tick, effect, refusedDevice}
 use Rattle.history.specs.Run.{next, answer, run, reached, Whole}
 use Rattle.history.specs.Valid.{ReachedWhole}
 use Rattle.history.specs.Clearing.{clears}
 use Rattle.history.specs.Tripping.{untrips}
-use Rattle.history.proofs.PageLeft.{PageLeft, kept, touched}
-use Rattle.history.proofs.Outcomes.{done-next, refused-next, by-answer, write-next, written-pages, measured-pages}
-use Rattle.history.proofs.PageAfter.{page-after}
+use Rattle.history.specs.Retry.{rests}
+use Rattle.history.proofs.PageLeft.{PageLeft, kept, touched, timed}
+use Rattle.history.proofs.Outcomes.{done-next, refused-next, by-answer, write-next, written-pages, measured-pages, ticked-pages}
+use Rattle.history.proofs.PageAfter.{timeOf, page-after}
 
 -- what each call preserves holds after every list of calls
 pub kept-in-runs : (P : Device → Type 0) → ((d : Device) (c : Call) → P d → P (next d c)) → (d : Device) (cs : List Call) → P d → P (run d cs)
@@ -46,6 +47,8 @@ module _ (d : Device) where
       ∙ rw (measured-pages d page quantity word) (length-map-at (eqb page) (λ p. settled (setMeasurement p quantity word)) (d .pages))
   answered-length (sample n) z = ap (λ (e : Device). length (e .pages)) (done-next d (sample n) z)
   answered-length (alertResponse n) z = ap (λ (e : Device). length (e .pages)) (done-next d (alertResponse n) z)
+  answered-length tick z =
+      ap (λ (e : Device). length (e .pages)) (done-next d tick z) ∙ rw (ticked-pages d) (length-map-at (λ i. true) ticked (d .pages))
 
   pub same-length : (c : Call) → length (next d c .pages) ≡ length (d .pages)
   unfolding refusedDevice
@@ -55,21 +58,28 @@ pub record Current (n : ℕ) (d : Device) : Type 0 where
   pub whole : Whole n d
   pub page : (i : ℕ) → i < n → UpToDate (pageOf d i)
 
-left-current : (p r : Page) (clear : ℕ → ℕ → Bool) (off : Bool) → PageLeft p r clear off → UpToDate p → UpToDate r
-left-current p r clear off (kept e s h) g = subst UpToDate (sym e) g
-left-current p r clear off (touched q e h) g = subst UpToDate (sym e) (settled-current q)
+left-current : (p r : Page) (clear : ℕ → ℕ → Bool) (off : Bool) (rest : ℕ → Bool) (time : Bool) → PageLeft p r clear off rest time → UpToDate p → UpToDate r
+left-current p r clear off rest time (kept e h t) g = subst UpToDate (sym e) g
+left-current p r clear off rest time (touched q e h t) g = subst UpToDate (sym e) (settled-current q (h .ready (current-ready p g)))
+left-current p r clear off rest time (timed e h t) g = subst UpToDate (sym e) (ticked-current p g)
 
 pub current-after : (n : ℕ) (d : Device) (c : Call) → Current n d → Current n (next d c)
 current-after n d c g = record {
   whole = same-length d c ∙ g .whole;
-  page = λ i h. left-current (pageOf d i) (pageOf (next d c) i) (clears d c i) (untrips d c i) (page-after d i (rw (g .whole) h) c) (g .page i h);
+  page = λ i h. left-current (pageOf d i) (pageOf (next d c) i) (clears d c i) (untrips d c i) (rests d c i) (timeOf d c)
+      (page-after d i (rw (g .whole) h) c) (g .page i h);
 }
+
+replicate-at : (n i : ℕ) → i < n → getD (replicate n powerOnPage) i noPage ≡ powerOnPage
+replicate-at zero i h = absurd (not-suc-le-zero h)
+replicate-at (suc n) zero h = refl
+replicate-at (suc n) (suc i) h = replicate-at n i (le-of-suc-le-suc h)
 
 powered : (n : ℕ) → Current n (powerOn n)
 unfolding powerOn
 powered n = record {
   whole = length-replicate n powerOnPage;
-  page = λ i h. replicate-each noPage UpToDate n powerOnPage i powered-current none-current;
+  page = λ i h. rw (replicate-at n i h) powered-current;
 }
 
 pub current : (n : ℕ) (cs : List Call) → Current n (reached n cs)

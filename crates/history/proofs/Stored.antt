@@ -18,7 +18,7 @@ use Rattle.command.specs.Causes.{CausesAgree}
 use Rattle.command.proofs.Causes.{causes-agree}
 use Rattle.page.specs.declared.Page.{Page}
 use Rattle.page.specs.Page.{powerOnPage}
-use Rattle.page.specs.Causes.{settled}
+use Rattle.page.specs.Causes.{moved, settled, ticked}
 use Rattle.page.specs.Settings.{setMeasurement}
 use Rattle.unpaged.specs.declared.Unpaged.{Unpaged}
 use Rattle.unpaged.specs.Unpaged.{powerOnUnpaged}
@@ -59,6 +59,7 @@ pub record PageField (code : ℕ) : Type 0 where
   pub write-sets : (p : Page) → Sized p → (c x y : ℕ) → c < 256 → x < 256
       → get (pageLeft (writeOf (commandOf c) x (wordOf x y)) p) ≡ cond (eqb c code) (take (lookup c .length) (x ∷ y ∷ [])) (get p)
   pub measure-keeps : (p : Page) (q w : ℕ) → get (settled (setMeasurement p q w)) ≡ get p
+  pub tick-keeps : (p : Page) → get (ticked p) ≡ get p
 
 -- and one of the device
 pub record DeviceField (code : ℕ) : Type 0 where
@@ -88,23 +89,25 @@ protect-field = record {
 }
 
 operation-field : PageField 0x01
-unfolding commandOf settingOf readData lookup table entryOf settled setMeasurement
+unfolding commandOf settingOf readData lookup table entryOf settled moved ticked setMeasurement
 operation-field = record {
   get = λ p. p .operation ∷ [];
   shown = λ u p. refl;
   paged = refl;
   write-sets = λ p z c x y b h. byte-data 0x01 c x y (p .operation) _ refl (operation-code c x (wordOf x y) p);
   measure-keeps = λ p q w. refl;
+  tick-keeps = λ p. refl;
 }
 
 command-field : PageField 0x21
-unfolding commandOf settingOf readData lookup table entryOf settled setMeasurement
+unfolding commandOf settingOf readData lookup table entryOf settled moved ticked setMeasurement
 command-field = record {
   get = λ p. wordBytes (p .command);
   shown = λ u p. refl;
   paged = refl;
   write-sets = λ p z c x y b h. word-data 0x21 c x y (p .command) _ h refl (command-code c x (wordOf x y) p);
   measure-keeps = λ p q w. refl;
+  tick-keeps = λ p. refl;
 }
 
 module _ (k : ℕ) (small : k < 11) where
@@ -117,7 +120,7 @@ module _ (k : ℕ) (small : k < 11) where
   limit-paged = agree-test (λ k. isUnpaged (limitOf k .limitCode)) (λ k. false) 11 tt k small
 
   limit-field : PageField (limitOf k .limitCode)
-  unfolding readData settled setMeasurement CausesAgree
+  unfolding readData settled moved ticked setMeasurement CausesAgree
   limit-field =
       let same : k % 11 ≡ k = omega arith in
       record {
@@ -126,6 +129,7 @@ module _ (k : ℕ) (small : k < 11) where
         paged = limit-paged;
         write-sets = λ p z c x y b h. word-data _ c x y (getD (p .limits) k 0) _ h limit-length (limit-code c x (wordOf x y) p z k small b);
         measure-keeps = λ p q w. refl;
+        tick-keeps = λ p. refl;
       }
 
 module _ (k : ℕ) (small : k < 6) where
@@ -138,7 +142,7 @@ module _ (k : ℕ) (small : k < 6) where
   response-paged = agree-test (λ k. isUnpaged (responseOf k .responseCode)) (λ k. false) 6 tt k small
 
   response-field : PageField (responseOf k .responseCode)
-  unfolding readData settled setMeasurement CausesAgree
+  unfolding readData settled moved ticked setMeasurement CausesAgree
   response-field =
       let same : k % 6 ≡ k = omega arith in
       record {
@@ -147,6 +151,7 @@ module _ (k : ℕ) (small : k < 6) where
         paged = response-paged;
         write-sets = λ p z c x y b h. byte-data _ c x y (getD (p .responses) k 0) _ response-length (response-code c x (wordOf x y) p z k small b);
         measure-keeps = λ p q w. refl;
+        tick-keeps = λ p. refl;
       }
 
 pub data Field (code : ℕ) : Type 0 where

@@ -11,20 +11,22 @@ use Rattle.laws.specs.Lists.{Bytes}
 use Rattle.laws.proofs.Branches.{either}
 use Rattle.laws.proofs.Lists.{byte-lt}
 use Rattle.page.specs.declared.Page.{Page}
+use Rattle.page.specs.Causes.{moved, ticked}
 use Rattle.page.specs.Status.{reading}
+use Rattle.unpaged.specs.declared.Unpaged.{Unpaged}
 use Rattle.unpaged.specs.Unpaged.{actsOn, refused}
 use Rattle.writes.specs.Asked.{wordOf, asked}
 use Rattle.device.specs.declared.Device.{Device}
 use Rattle.device.specs.Device.{pageOf}
-use Rattle.device.specs.Step.{Call, write, read, measure, sample, alertResponse, effect, refusedDevice}
+use Rattle.device.specs.Step.{Call, write, read, measure, sample, alertResponse, tick, effect, refusedDevice}
 use Rattle.history.specs.Run.{next, answer}
 use Rattle.history.specs.Accepted.{codeOf}
 use Rattle.history.specs.Effects.{Effects, Leaves}
 use Rattle.history.specs.ReadBack.{OnBus, stores, writtenData, measures, measuredWord}
-use Rattle.history.proofs.Outcomes.{done-next, refused-next, by-answer, write-next}
+use Rattle.history.proofs.Outcomes.{done-next, refused-next, by-answer, write-next, ticked-page-at}
 use Rattle.history.proofs.Runs.{same-length}
 use Rattle.history.proofs.Effects.{measure-named, measured-page-at, written-page-at, written-page, written-protect, effects}
-use Rattle.history.proofs.Fields.{Sized, left-sized, measured-sized, measured-reading}
+use Rattle.history.proofs.Fields.{Sized, left-sized, measured-sized, ticked-sized, measured-reading}
 use Rattle.history.proofs.Stored.{PageField, DeviceField}
 
 module _ (d : Device) where
@@ -39,6 +41,7 @@ module _ (d : Device) where
   refused-stores (measure page quantity word) r i code = refl
   refused-stores (sample n) r i code = refl
   refused-stores (alertResponse n) r i code = refl
+  refused-stores tick r i code = refl
 
   refused-measures : (c : Call) → (answer d c ≡ 0 → ⊥) → (i q : ℕ) → measures i q d c ≡ false
   unfolding measures
@@ -47,6 +50,11 @@ module _ (d : Device) where
   refused-measures (measure page quantity word) r i q = rw (ne-eqb (answer d (measure page quantity word)) 0 r)
   refused-measures (sample n) r i q = refl
   refused-measures (alertResponse n) r i q = refl
+  refused-measures tick r i q = refl
+
+ticked-reading : (p : Page) (q : ℕ) → reading (ticked p) q ≡ reading p q
+unfolding ticked moved reading
+ticked-reading p q = refl
 
 -- a page of a run has lists of their lengths
 pub record AllSized (d : Device) : Type 0 where
@@ -64,6 +72,7 @@ module _ (d : Device) (g : AllSized d) (i : ℕ) (small : i < length (d .pages))
       (either (eqb page i) (λ y. rw y (measured-sized (pageOf d i) (g .at i small) quantity word)) (λ n. rw n (g .at i small)))
   done-sized (sample n) z = rw (done-next d (sample n) z) (g .at i small)
   done-sized (alertResponse n) z = rw (done-next d (alertResponse n) z) (g .at i small)
+  done-sized tick z = rw (ticked-page-at d z i small) (ticked-sized (pageOf d i) (g .at i small))
 
   -- ---- a code of page i after a call
   module _ (code : ℕ) (f : PageField code) where
@@ -95,6 +104,7 @@ module _ (d : Device) (g : AllSized d) (i : ℕ) (small : i < length (d .pages))
     done-steps (measure page quantity word) b z = measure-steps page quantity word z
     done-steps (sample n) b z = ap (λ (e : Device). f .get (pageOf e i)) (done-next d (sample n) z)
     done-steps (alertResponse n) b z = ap (λ (e : Device). f .get (pageOf e i)) (done-next d (alertResponse n) z)
+    done-steps tick b z = ap (f .get) (ticked-page-at d z i small) ∙ f .tick-keeps (pageOf d i)
 
     pub page-steps : (c : Call) → OnBus c → f .get (pageOf (next d c) i) ≡ cond (stores i code d c) (writtenData c) (f .get (pageOf d i))
     page-steps c b =
@@ -121,6 +131,7 @@ module _ (d : Device) (g : AllSized d) (i : ℕ) (small : i < length (d .pages))
     done-reading (measure page quantity word) z = measured-steps page quantity word z
     done-reading (sample n) z = ap (λ (e : Device). reading (pageOf e i) q) (done-next d (sample n) z)
     done-reading (alertResponse n) z = ap (λ (e : Device). reading (pageOf e i) q) (done-next d (alertResponse n) z)
+    done-reading tick z = ap (λ (p : Page). reading p q) (ticked-page-at d z i small) ∙ ticked-reading (pageOf d i) q
 
     pub reading-steps : (c : Call) → reading (pageOf (next d c) i) q ≡ cond (measures i q d c) (measuredWord c) (reading (pageOf d i) q)
     reading-steps c =
@@ -159,6 +170,9 @@ module _ (d : Device) (i code : ℕ) (f : DeviceField code) where
       let e = effects d (measure page quantity word) z in kept-view (measure page quantity word) (e .page) (e .protect) refl
   done-view (sample n) z = let e = effects d (sample n) z in kept-view (sample n) (e .page) (e .protect) refl
   done-view (alertResponse n) z = let e = effects d (alertResponse n) z in kept-view (alertResponse n) (e .page) (e .protect) refl
+  done-view tick z =
+      let e = effects d tick z .unpaged in
+      kept-view tick (ap (λ (u : Unpaged). u .page) e) (ap (λ (u : Unpaged). u .protect) e) refl
 
   pub device-steps : (c : Call) → view (next d c) ≡ cond (stores i code d c) (writtenData c) (view d)
   unfolding refusedDevice refused

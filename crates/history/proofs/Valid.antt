@@ -17,9 +17,9 @@ use Rattle.account.proofs.Laws.{sampled-valid}
 use Rattle.command.specs.Meaning.{commandOf}
 use Rattle.page.specs.declared.Page.{Page}
 use Rattle.page.specs.Page.{powerOnPage}
-use Rattle.page.specs.Causes.{settled}
+use Rattle.page.specs.Causes.{settled, ticked}
 use Rattle.page.specs.Settings.{pageValid, setMeasurement}
-use Rattle.page.proofs.Setters.{operation-valid, response-valid, command-valid, limit-valid, measurement-valid, clear-valid, settled-valid, powered-valid}
+use Rattle.page.proofs.Setters.{operation-valid, response-valid, command-valid, limit-valid, measurement-valid, clear-valid, settled-valid, ticked-valid, powered-valid}
 use Rattle.unpaged.specs.declared.Unpaged.{Unpaged}
 use Rattle.unpaged.specs.Unpaged.{powerOnUnpaged, validPage, validProtect, unpagedValid, refused, withEnergy}
 use Rattle.unpaged.specs.Events.{measureAnswer, alertAnswer}
@@ -31,13 +31,13 @@ use Rattle.writes.specs.Left.{applied, changed, cleared, pageLeft, unpagedLeft}
 use Rattle.reads.specs.Answers.{entryAnswer, headerAnswer, readAnswer}
 use Rattle.device.specs.declared.Device.{Device}
 use Rattle.device.specs.Device.{supported, powerOn, deviceValid, alertRisen}
-use Rattle.device.specs.Step.{Call, write, read, measure, sample, alertResponse, answerOf, answered, effect, refusedDevice, step, measured}
+use Rattle.device.specs.Step.{Call, write, read, measure, sample, alertResponse, tick, answerOf, answered, effect, refusedDevice, step, measured, tickedDevice}
 use Rattle.device.proofs.States.{Valid, valid-parts, parts-valid}
 use Rattle.history.specs.Run.{next, answer, reached}
 use Rattle.history.specs.Accepted.{codeOf}
 use Rattle.history.specs.Valid.{Fifteen, ReachedValid, NoFifteen}
 use Rattle.history.proofs.Codes.{smallSetting, smallResponse, response-code}
-use Rattle.history.proofs.Outcomes.{done-next, refused-next, by-answer, write-next, takes-effect-of, written-pages, written-unpaged, measured-pages}
+use Rattle.history.proofs.Outcomes.{done-next, refused-next, by-answer, write-next, takes-effect-of, written-pages, written-unpaged, measured-pages, ticked-pages}
 use Rattle.history.proofs.Runs.{kept-in-runs, same-length}
 
 -- ---- who gets 15: in a valid state no test of any kind of call comes to it
@@ -52,6 +52,7 @@ not-15 d (read header n) = simp (cond-apply is15, cond-same)
 not-15 d (measure page quantity word) = simp (cond-apply is15, cond-same)
 not-15 d (sample n) = either (ltb n 32768) (λ e. rw (e, answerOf)) (λ e. rw (e, answerOf))
 not-15 d (alertResponse n) = simp (cond-apply is15, cond-same)
+not-15 d tick = refl
 
 pub fifteen : Fifteen
 unfolding Fifteen step answered
@@ -72,9 +73,9 @@ module _ (p : Page) (v : pageValid p ≡ true) where
   page-valid n Write.Nothing e small = v
   page-valid n (Write.SelectPage x) e small = v
   page-valid n (Write.Protect x) e small = v
-  page-valid n (Write.Change s) e small = settled-valid (applied s p) ∙ setting-valid s e small
+  page-valid n (Write.Change s) e small = settled-valid (applied s p) (setting-valid s e small)
   page-valid n (Write.ClearCml m) e small = v
-  page-valid n (Write.Clear m) e small = settled-valid _ ∙ clear-valid p (pageMasks m) ∙ v
+  page-valid n (Write.Clear m) e small = settled-valid _ (clear-valid p (pageMasks m) ∙ v)
 
 module _ (d : Device) (v : Valid d) where
   abbrev n : ℕ
@@ -121,7 +122,18 @@ module _ (d : Device) (valid : deviceValid d ≡ true) where
       (ap (λ (e : Device). unpagedValid (length (d .pages)) (e .unpaged)) (done-next d c z) ∙ rw (v .page, v .protect, v .energy))
       (ap (λ (e : Device). allOf pageValid (e .pages)) (done-next d c z)
       ∙ all-map-at pageValid (eqb page) (λ p. settled (setMeasurement p quantity word)) (d .pages)
-      (λ p e. settled-valid (setMeasurement p quantity word) ∙ measurement-valid p quantity word ∙ e) (v .pages))
+      (λ p e. settled-valid (setMeasurement p quantity word) (measurement-valid p quantity word ∙ e)) (v .pages))
+
+  tick-valid : answer d tick ≡ 0 → deviceValid (next d tick) ≡ true
+  unfolding effect tickedDevice unpagedValid
+  tick-valid z =
+      made-valid d (next d tick) v (same-length d tick)
+      (ap (λ (e : Device). unpagedValid (length (d .pages)) (e .unpaged)) (done-next d tick z) ∙ unpaged-parts)
+      (ap (λ (e : Device). allOf pageValid (e .pages)) (done-next d tick z)
+      ∙ rw (ticked-pages d) (all-map-at pageValid (λ i. true) ticked (d .pages) (λ p e. ticked-valid p e) (v .pages)))
+    where
+      unpaged-parts : unpagedValid (length (d .pages)) (d .unpaged) ≡ true
+      unpaged-parts = rw (v .page, v .protect, v .energy)
 
   effect-valid : (c : Call) → answer d c ≡ 0 → deviceValid (next d c) ≡ true
   unfolding effect deviceValid unpagedValid
@@ -132,6 +144,7 @@ module _ (d : Device) (valid : deviceValid d ≡ true) where
       rw (done-next d (sample m) z)
       (rw (v .number, v .page, v .protect, sampled-valid (d .unpaged .energy) m (v .energy), v .pages))
   effect-valid (alertResponse m) z = rw (done-next d (alertResponse m) z) valid
+  effect-valid tick z = tick-valid z
 
   refused-valid : (a : ℕ) → deviceValid (refusedDevice d a) ≡ true
   unfolding refusedDevice refused deviceValid unpagedValid

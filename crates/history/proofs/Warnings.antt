@@ -19,7 +19,7 @@ use Rattle.command.specs.declared.meaning.Command.the-variants.{Limit}
 use Rattle.command.specs.Meaning.{commandOf, faultOf}
 use Rattle.page.specs.declared.Page.{Page}
 use Rattle.page.specs.Page.{noPage}
-use Rattle.page.specs.Causes.{settled}
+use Rattle.page.specs.Causes.{settled, ticked}
 use Rattle.page.specs.Settings.{pageValid, setMeasurement}
 use Rattle.unpaged.specs.declared.Unpaged.{Unpaged}
 use Rattle.unpaged.specs.Unpaged.{actsOn, cmlBits, refused, unpagedValid}
@@ -32,14 +32,14 @@ use Rattle.writes.specs.Left.{pageLeft, unpagedLeft}
 use Rattle.reads.specs.Answers.{headerAnswer, readAnswer}
 use Rattle.device.specs.declared.Device.{Device}
 use Rattle.device.specs.Device.{deviceValid, pageOf, alertRisen, powerOn}
-use Rattle.device.specs.Step.{Call, write, read, measure, sample, alertResponse, answerOf, answered, effect, refusedDevice, step, written, measured}
+use Rattle.device.specs.Step.{Call, write, read, measure, sample, alertResponse, tick, answerOf, answered, effect, refusedDevice, step, written, measured, tickedDevice}
 use Rattle.history.specs.Run.{next, answer, run, reached}
 use Rattle.history.specs.Accepted.{codeOf}
 use Rattle.history.specs.Effects.{OnlyAlert}
 use Rattle.history.specs.Warnings.{warnLimit, AlikePages, Alike, AnswerAlike, StayAlike, WarnLimitsAside}
-use Rattle.history.proofs.AlikePages.{measured-alike, left-alike, warn-limit-alike, alike-self, valid-alike}
+use Rattle.history.proofs.AlikePages.{ticked-alike, measured-alike, left-alike, warn-limit-alike, alike-self, valid-alike}
 use Rattle.history.proofs.Effects.{written-page-at, written-page, written-protect}
-use Rattle.history.proofs.Outcomes.{done-next, refused-next, by-answer, write-next, written-pages, written-cml, written-energy}
+use Rattle.history.proofs.Outcomes.{done-next, refused-next, by-answer, write-next, written-pages, written-cml, written-energy, ticked-pages}
 use Rattle.history.proofs.Runs.{current}
 
 -- ---- answers
@@ -77,6 +77,10 @@ module _ (d e : Device) (a : Alike d e) where
   unfolding answerOf
   sample-answer n = rw (a .energy)
 
+  tick-answer : answerOf d tick ≡ answerOf e tick
+  unfolding answerOf
+  tick-answer = refl
+
   pub answer-alike : (c : Call) → AnswerAlike d e c
   unfolding AnswerAlike
   answer-alike (write s) = by-valid (write s) (write-answer s)
@@ -84,6 +88,7 @@ module _ (d e : Device) (a : Alike d e) where
   answer-alike (measure page quantity word) = by-valid (measure page quantity word) (measure-answer page quantity word)
   answer-alike (sample n) = by-valid (sample n) (sample-answer n)
   answer-alike (alertResponse n) = tt
+  answer-alike tick = by-valid tick tick-answer
 
 -- ---- what a call leaves
 
@@ -165,6 +170,20 @@ module _ (d e : Device) (a : Alike d e) where
         pages = mapped-alike (eqb page) (eqb page) f (d .pages) (e .pages) (a .number) (λ i. refl) (measured-alike quantity word) (a .pages);
       }
 
+  all-ticked-alike : Alike (tickedDevice d) (tickedDevice e)
+  unfolding tickedDevice
+  all-ticked-alike = record {
+    page = a .page;
+    protect = a .protect;
+    cml = a .cml;
+    energy = a .energy;
+    number = rw (ticked-pages d, ticked-pages e) (mapped-length every every ticked (d .pages) (e .pages) (a .number));
+    pages = rw (ticked-pages d, ticked-pages e) (mapped-alike every every ticked (d .pages) (e .pages) (a .number) (λ i. refl) ticked-alike (a .pages));
+  }
+    where
+      every : ℕ → Bool
+      every i = true
+
   effect-alike : (c : Call) → Alike (effect d c) (effect e c)
   unfolding effect
   effect-alike (write s) = written-alike (asked s)
@@ -186,6 +205,7 @@ module _ (d e : Device) (a : Alike d e) where
     number = a .number;
     pages = a .pages;
   }
+  effect-alike tick = all-ticked-alike
 
   refused-alike : (x : ℕ) → Alike (refusedDevice d x) (refusedDevice e x)
   unfolding refusedDevice refused
@@ -244,6 +264,7 @@ next-after d e a (measure page quantity word) =
     next-alike d e a (measure page quantity word) (answer-alike d e a (measure page quantity word))
 next-after d e a (sample n) = next-alike d e a (sample n) (answer-alike d e a (sample n))
 next-after d e a (alertResponse n) = alert-alike d e a n
+next-after d e a tick = next-alike d e a tick (answer-alike d e a tick)
 
 pub stay-alike : StayAlike
 unfolding StayAlike

@@ -9,7 +9,7 @@ use lib.ListN.{length}
 use Rattle.page.specs.Latching.{statusBit}
 use Rattle.device.specs.declared.Device.{Device}
 use Rattle.device.specs.Device.{pageOf}
-use Rattle.device.specs.Step.{Call, write, read, measure, sample, alertResponse}
+use Rattle.device.specs.Step.{Call, write, read, measure, sample, alertResponse, tick}
 use Rattle.history.specs.Run.{next, answer, cmlBit}
 use Rattle.history.specs.Clearing.{clearingCall}
 
@@ -30,6 +30,7 @@ answeredAlert d (read header n) = false
 answeredAlert d (measure page quantity word) = false
 answeredAlert d (sample n) = false
 answeredAlert d (alertResponse n) = eqb (answer d (alertResponse n)) 0
+answeredAlert d tick = false
 
 -- it goes up exactly with a bit that turns from 0 to 1, and stays up (data sheet 8.1, 8.2)
 unfoldable pub AlertRises : Type 0

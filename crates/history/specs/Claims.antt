@@ -8,6 +8,7 @@ use Rattle.history.specs.Pages.{PagesStay}
 use Rattle.history.specs.Clearing.{Falls, FallsCml}
 use Rattle.history.specs.Latching.{Latched, Latches, LatchesCml}
 use Rattle.history.specs.Tripping.{Tripped, StaysTripped, Trips}
+use Rattle.history.specs.Retry.{TickQuiet, StaysDown, LetsOnAgain, LetsOnByTicks}
 use Rattle.history.specs.Warnings.{StayAlike, ReplyAlike, WarnLimitsAside, SupplyAlike}
 use Rattle.history.specs.Alert.{AlertRises, AlertCleared, AlertAnswered}
 use Rattle.history.specs.Energy.{Demand3}
@@ -29,10 +30,10 @@ pub record Claims : Type 0 where
   pub refused : Refused
   -- and with answers 1, 2 and 12 to 15 nothing at all
   pub unchanged : Unchanged
-  -- a write changes no page that it does not act on, a measurement none that it does not name, any other call none
+  -- a write changes no page that it does not act on, a measurement none that it does not name, a read, a sample and an alert response none
   pub pages-stay : PagesStay
   -- with answer 0 a read changes nothing, an alert response only the alert, a sample only the account, a measurement only its page and the
-  -- alert, and a write neither the account nor a measured word (Effects.antt)
+  -- alert, a tick only machines and trips, and a write neither the account nor a measured word (Effects.antt)
   pub effects : Effects
   -- ---- which writes are accepted (Accepted.antt; data sheet 3.7)
   -- answer 0 exactly where a write is well formed, permitted and of valid data
@@ -60,12 +61,21 @@ pub record Claims : Type 0 where
   -- each bit of STATUS_CML after a call, in one equation
   pub latches-cml : LatchesCml
   -- ---- trips (Tripping.antt; data sheet 7.1, 7.2, 7.4)
-  -- after every call of a run a page with a present cause that shuts it down is tripped
+  -- after every call of a run a page with a present cause whose response shuts down and stays off is tripped
   pub tripped : Tripped
   -- OPERATION 00h or 40h alone ends a trip
   pub stays-tripped : StaysTripped
   -- the trip after a call, in one equation
   pub trips : Trips
+  -- ---- retry machines (Retry.antt; data sheet 7.8 to 7.11)
+  -- a tick sets no bit and leaves the alert
+  pub tick-quiet : TickQuiet
+  -- a machine that has tripped its page stays so until OPERATION 00h or 40h or its own response is written
+  pub stays-down : StaysDown
+  -- while its cause lasts a machine with 1 to 6 retries lets its page on at most as many times, and exactly as many within 56 ticks of its start
+  pub lets-on-again : LetsOnAgain
+  -- and with any retries at the very ticks
+  pub lets-on-by-ticks : LetsOnByTicks
   -- ---- warnings (Warnings.antt; data sheet 6.15)
   -- devices that differ in warn limits, warnings' bits and the alert answer alike and stay so
   pub stay-alike : StayAlike

@@ -10,7 +10,7 @@ use Rattle.page.specs.Latching.{statusBit}
 use Rattle.unpaged.specs.Unpaged.{actsOn}
 use Rattle.device.specs.declared.Device.{Device}
 use Rattle.device.specs.Device.{pageOf}
-use Rattle.device.specs.Step.{Call, write, read, measure, sample, alertResponse}
+use Rattle.device.specs.Step.{Call, write, read, measure, sample, alertResponse, tick}
 use Rattle.history.specs.Run.{next, answer, cmlBit}
 
 -- The two clearings, by code and first data byte x: CLEAR_FAULTS, and ones written to a status register. In three separate meanings: the
@@ -33,6 +33,7 @@ acceptedWrite d (read header n) test = false
 acceptedWrite d (measure page quantity word) test = false
 acceptedWrite d (sample n) test = false
 acceptedWrite d (alertResponse n) test = false
+acceptedWrite d tick test = false
 
 -- c clears bit k of register j on page i,
 unfoldable pub clears : Device → Call → ℕ → ℕ → ℕ → Bool

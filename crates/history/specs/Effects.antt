@@ -8,7 +8,7 @@ use Rattle.page.specs.declared.Page.{Page}
 use Rattle.page.specs.Status.{reading}
 use Rattle.device.specs.declared.Device.{Device}
 use Rattle.device.specs.Device.{pageOf}
-use Rattle.device.specs.Step.{Call, write, read, measure, sample, alertResponse}
+use Rattle.device.specs.Step.{Call, write, read, measure, sample, alertResponse, tick}
 use Rattle.history.specs.Run.{next, answer}
 use Rattle.history.specs.Accepted.{codeOf}
 
@@ -28,7 +28,7 @@ pub record OnlyAccount (d e : Device) : Type 0 where
   pub alert : e .unpaged .alert ≡ d .unpaged .alert
   pub pages : e .pages ≡ d .pages
 
--- of a page, p before and r after: all but one quantity's word, the status bits and the trip,
+-- of a page, p before and r after: all but one quantity's word, the status bits, the machines and the trip,
 pub record OnlyQuantity (quantity : ℕ) (p r : Page) : Type 0 where
   pub operation : r .operation ≡ p .operation
   pub command : r .command ≡ p .command
@@ -55,6 +55,22 @@ pub record OnlyWritten (code : ℕ) (d e : Device) : Type 0 where
   pub number : length (e .pages) ≡ length (d .pages)
   pub readings : (i q : ℕ) → reading (pageOf e i) q ≡ reading (pageOf d i) q
 
+-- of a page: all but the machines and the trip,
+pub record OnlyMachines (p r : Page) : Type 0 where
+  pub operation : r .operation ≡ p .operation
+  pub command : r .command ≡ p .command
+  pub limits : r .limits ≡ p .limits
+  pub responses : r .responses ≡ p .responses
+  pub words : r .words ≡ p .words
+  pub measured : r .measured ≡ p .measured
+  pub status : r .status ≡ p .status
+
+-- of the device: all but these, so that a tick sets no bit and leaves the alert (data sheet 7.9)
+pub record OnlyTicked (d e : Device) : Type 0 where
+  pub unpaged : e .unpaged ≡ d .unpaged
+  pub number : length (e .pages) ≡ length (d .pages)
+  pub pages : (i : ℕ) → i < length (d .pages) → OnlyMachines (pageOf d i) (pageOf e i)
+
 -- by the kind of call
 unfoldable pub Leaves : Device → Call → Device → Type 0
 Leaves d (write s) e = OnlyWritten (codeOf s) d e
@@ -62,6 +78,7 @@ Leaves d (read header n) e = e ≡ d
 Leaves d (measure page quantity word) e = OnlyMeasured page quantity d e
 Leaves d (sample n) e = OnlyAccount d e
 Leaves d (alertResponse n) e = OnlyAlert d e
+Leaves d tick e = OnlyTicked d e
 
 unfoldable pub Effects : Type 0
 Effects = (d : Device) (c : Call) → answer d c ≡ 0 → Leaves d c (next d c)

@@ -11,7 +11,7 @@ use Rattle.energy.specs.Events.{Log, freshLog, logSample, logCopies}
 use Rattle.energy.specs.Claim.{AtEachCopy}
 use Rattle.device.specs.declared.Device.{Device}
 use Rattle.device.specs.Device.{powerOn}
-use Rattle.device.specs.Step.{Call, write, read, measure, sample, alertResponse, Result, step}
+use Rattle.device.specs.Step.{Call, write, read, measure, sample, alertResponse, tick, Result, step}
 use Rattle.history.specs.Run.{next}
 use Rattle.history.specs.Accepted.{codeOf}
 
@@ -38,6 +38,7 @@ partOf (read header n) r = cond (isEnergyReply header n r) (energyReply (r .repl
 partOf (measure page quantity word) r = none
 partOf (sample n) r = powerSample n (r .done .answer)
 partOf (alertResponse n) r = none
+partOf tick r = none
 
 abbrev pub part : Device → Turn → Part
 part d t = partOf (t .call) (step d (t .call))

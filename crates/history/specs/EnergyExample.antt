@@ -18,6 +18,7 @@ use Rattle.pec.specs.Pec.{pec, pecFrom, pecByte, pecBit}
 use Rattle.command.specs.Table.{table, entryOf, lookup}
 use Rattle.command.specs.Meaning.{commandOf, readingOf}
 use Rattle.page.specs.Page.{powerOnPage}
+use Rattle.retry.specs.Machines.{allValid}
 use Rattle.cause.specs.Causes.{causes}
 use Rattle.page.specs.Settings.{pageValid, validOperation}
 use Rattle.unpaged.specs.Unpaged.{powerOnUnpaged, validPage, validProtect, unpagedValid, refused}
@@ -81,7 +82,7 @@ pub copies-and-history :
 unfolding
     turns TrueCopies CopiesOf AreCopies logAfter partOf logPart logCopies accountValid added sampled einBytes accountOf freshTotalizer
     energyReading replyCheck replyAnswer nextEnergy nextSamples booked totalize totalizing.added pec pecFrom pecByte pecBit table
-    entryOf lookup commandOf readingOf powerOnPage pageValid validOperation causes powerOnUnpaged validPage validProtect unpagedValid
+    entryOf lookup commandOf readingOf powerOnPage pageValid validOperation allValid causes powerOnUnpaged validPage validProtect unpagedValid
     refused entryAnswer headerAnswer readAnswer answersData readData checked readStream powerOn supported deviceValid step
     answerOf calls.answered effect left sent
 copies-and-history = ((tt, (((is-changed, bytes), (tt, tt)), (tt, (tt, (tt, ((tt, (tt, tt)), tt)))))), refl)

@@ -6,6 +6,7 @@ pub mod Pages
 pub mod Latching
 pub mod Warnings
 pub mod Tripping
+pub mod Retry
 pub mod Alert
 pub mod Accepted
 pub mod Energy

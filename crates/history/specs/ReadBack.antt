@@ -13,7 +13,7 @@ use Rattle.command.specs.Table.{lookup}
 use Rattle.unpaged.specs.Unpaged.{actsOn}
 use Rattle.device.specs.declared.Device.{Device}
 use Rattle.device.specs.Device.{supported, powerOn}
-use Rattle.device.specs.Step.{Call, write, read, measure, sample, alertResponse, step}
+use Rattle.device.specs.Step.{Call, write, read, measure, sample, alertResponse, tick, step}
 use Rattle.history.specs.Run.{next, answer, reached}
 use Rattle.history.specs.Accepted.{codeOf}
 
@@ -29,6 +29,7 @@ OnBus (read header n) = Unit
 OnBus (measure page quantity word) = Unit
 OnBus (sample n) = Unit
 OnBus (alertResponse n) = Unit
+OnBus tick = Unit
 
 unfoldable pub AllOnBus : List Call → Type 0
 AllOnBus [] = Unit
@@ -87,6 +88,7 @@ stores i code d (read header n) = false
 stores i code d (measure page quantity word) = false
 stores i code d (sample n) = false
 stores i code d (alertResponse n) = false
+stores i code d tick = false
 
 -- the data of a write: the one or two bytes behind its code
 unfoldable pub writtenData : Call → List ℕ
@@ -95,6 +97,7 @@ writtenData (read header n) = []
 writtenData (measure page quantity word) = []
 writtenData (sample n) = []
 writtenData (alertResponse n) = []
+writtenData tick = []
 
 -- After every run a stored code reads as the latest accepted write of it left it, on page i for a paged one while that page is selected.
 unfoldable pub WrittenBack : Type 0
@@ -119,6 +122,7 @@ measures i q d (read header n) = false
 measures i q d (measure page quantity word) = eqb (answer d (measure page quantity word)) 0 && eqb page i && eqb quantity q
 measures i q d (sample n) = false
 measures i q d (alertResponse n) = false
+measures i q d tick = false
 
 -- the word
 unfoldable pub measuredWord : Call → ℕ
@@ -127,6 +131,7 @@ measuredWord (read header n) = 0
 measuredWord (measure page quantity word) = word
 measuredWord (sample n) = 0
 measuredWord (alertResponse n) = 0
+measuredWord tick = 0
 
 -- a word is read low byte first
 abbrev pub lowFirst : ℕ → List ℕ

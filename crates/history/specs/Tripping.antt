@@ -34,8 +34,8 @@ unfoldable pub StaysTripped : Type 0
 StaysTripped =
     (d : Device) (c : Call) (i : ℕ) → i < length (d .pages) → pageOf d i .tripped ≡ true → pageOf (next d c) i .tripped ≡ false → untrips d c i ≡ true
 
--- One equation for each call of a run: a page is tripped after it exactly when it was before and is not untripped, or a present cause shuts
--- it down, at once after an untripping too
+-- One equation for each call of a run, ticks among them: a page is tripped after it exactly when it was before and is not untripped, or a present
+-- cause shuts it down without a machine, or a machine has tripped it; at once after an untripping too
 unfoldable pub Trips : Type 0
 Trips =
     (n : ℕ) (cs : List Call) (c : Call) (i : ℕ) → i < n

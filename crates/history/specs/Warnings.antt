@@ -14,7 +14,7 @@ use Rattle.page.specs.Latching.{statusBit}
 use Rattle.page.specs.Status.{supplies}
 use Rattle.device.specs.declared.Device.{Device}
 use Rattle.device.specs.Device.{pageOf}
-use Rattle.device.specs.Step.{Call, write, read, measure, sample, alertResponse, step}
+use Rattle.device.specs.Step.{Call, write, read, measure, sample, alertResponse, tick, step}
 use Rattle.history.specs.Run.{next, answer, reached}
 use Rattle.history.specs.Accepted.{codeOf}
 
@@ -32,6 +32,7 @@ pub record AlikePages (p q : Page) : Type 0 where
   pub command : p .command ≡ q .command
   pub limits : take 6 (p .limits) ≡ take 6 (q .limits)
   pub responses : p .responses ≡ q .responses
+  pub machines : p .machines ≡ q .machines
   pub words : p .words ≡ q .words
   pub measured : p .measured ≡ q .measured
   pub bits : (j k : ℕ) → j < 4 → warningBit j k ≡ false → statusBit p j k ≡ statusBit q j k
@@ -53,6 +54,7 @@ AnswerAlike d e (read header n) = answer d (read header n) ≡ answer e (read he
 AnswerAlike d e (measure page quantity word) = answer d (measure page quantity word) ≡ answer e (measure page quantity word)
 AnswerAlike d e (sample n) = answer d (sample n) ≡ answer e (sample n)
 AnswerAlike d e (alertResponse n) = Unit
+AnswerAlike d e tick = answer d tick ≡ answer e tick
 
 -- such devices answer every call alike, and it leaves them alike;
 unfoldable pub StayAlike : Type 0

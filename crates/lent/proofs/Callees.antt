@@ -28,6 +28,7 @@ use Rattle.records.proofs.take as take
 use Rattle.records.proofs.put as put
 use Rattle.records.proofs.any_bit as any
 use Rattle.records.proofs.power_on as fill
+use Rattle.records.proofs.tick as tick
 use Rattle.reads.proofs.reply.send as send
 
 abbrev pub unpaged : Kind
@@ -69,6 +70,9 @@ module _ {M : Type 1} (𝓤 : URA M) (H : Heap 𝓤) (A : Atoms 𝓤) (mem : Mem
 
   abbrev pub Fill : Contract 𝓤
   Fill = tripleOf 𝓤 H A fill.signature (fill.spec 𝓤 H A mem run)
+
+  abbrev pub Tick : Contract 𝓤
+  Tick = tripleOf 𝓤 H A tick.signature (tick.spec 𝓤 H A mem run)
 
   abbrev pub Send : Contract 𝓤
   Send = tripleOf 𝓤 H A send.signature (send.spec 𝓤 H A mem run)

@@ -8,26 +8,28 @@ use native.Mathlib.Omega.{arith}
 use lib.Dec.{eqb, ltb}
 use lib.ListN.{length, getD, set, replicate}
 use lib.Seq.{set-out}
-use borrow.Author.Tests.{eqb-true, ltb-true}
+use borrow.Author.Tests.{eqb-true, ltb-true, eq-eqb, ne-eqb}
 use Rattle.laws.specs.Lists.{anyOf, anyPair}
 use Rattle.laws.proofs.Branches.{either}
 use Rattle.page.specs.declared.Page.{Page}
 use Rattle.page.specs.Page.{noPage, powerOnPage}
+use Rattle.page.specs.Causes.{ticked}
 use Rattle.page.specs.Status.{anyStatus, risen}
 use Rattle.unpaged.specs.declared.Unpaged.{Unpaged}
-use Rattle.unpaged.specs.Unpaged.{everyPage, refused}
+use Rattle.unpaged.specs.Unpaged.{everyPage, refused, cmlBits}
 use Rattle.writes.specs.declared.asked.Write.{Write}
 use Rattle.writes.specs.Asked.{asked}
 use Rattle.writes.specs.Left.{pageLeft, unpagedLeft, clearing}
 use Rattle.device.specs.declared.Device.{Device}
 use Rattle.device.specs.Device.{device, deviceValid, powerOn, supported}
-use Rattle.device.specs.Step.{write, measure, alertResponse, answered, effect, written, measured, refusedDevice, left, done, step}
+use Rattle.device.specs.Step.{write, measure, alertResponse, tick, answerOf, answered, effect, written, measured, tickedDevice, refusedDevice, left, done, step}
 use Rattle.device.proofs.OnePage.{one-written, one-measured}
 use Rattle.device.proofs.EveryPage.{every-written}
 use Rattle.device.proofs.States.{valid-parts, answered-valid}
+use Rattle.device.proofs.Refused.{device-stays}
 use Rattle.device.proofs.Calls.{stepped, valid-page, one-small, measured-small}
 use Rattle.lent.specs.declared.turns.Turn.{Turn}
-use Rattle.lent.specs.Lent.{beside, powered, poweredOutcome, refusedOutcome, acceptedTurn, writeTurn, measuredTurn, measuredPage, measureTurn, finished, alertLeft, turn}
+use Rattle.lent.specs.Lent.{beside, outcome, powered, poweredOutcome, refusedOutcome, acceptedTurn, writeTurn, measuredTurn, measuredPage, measureTurn, finished, alertLeft, turn}
 use Rattle.lent.proofs.Taken.{same-at, put-back}
 
 -- an answered alert response takes the alert down
@@ -133,3 +135,22 @@ powered-done ps z = either (supported (length ps)) (λ y. rw y) (λ n. let f : 1
 pub powered-kept : (ps : List Page) → (poweredOutcome (length ps) .answer ≡ 0 → ⊥) → beside (poweredOutcome (length ps)) ps ≡ powered ps
 unfolding powered poweredOutcome
 powered-kept ps other = either (supported (length ps)) (λ y. absurd (other (rw y))) (λ n. rw n)
+
+refused-tick : (d : Device) → cmlBits (answered d tick) ≡ 0
+unfolding answered answerOf cmlBits
+refused-tick d = either (deviceValid d) (λ y. rw y) (λ n. rw n)
+
+-- a tick moves the machines of every record where its answer is 0, and changes nothing else
+module _ (u : Unpaged) (ps : List Page) where
+  pub tick-done : answered (device u ps) tick ≡ 0 → beside (outcome u (answered (device u ps) tick)) (map ticked ps) ≡ step (device u ps) tick .done
+  unfolding left effect tickedDevice
+  tick-done z = stepped (device u ps) tick _ _ refl (rw (eq-eqb (answered (device u ps) tick) 0 z))
+
+  pub tick-kept : (answered (device u ps) tick ≡ 0 → ⊥) → beside (outcome u (answered (device u ps) tick)) ps ≡ step (device u ps) tick .done
+  unfolding left
+  tick-kept other =
+      stepped (device u ps) tick _ _ refl
+      (rw (ne-eqb (answered (device u ps) tick) 0 other) (sym (device-stays (device u ps) (answered (device u ps) tick) no-bit)))
+    where
+      no-bit : cmlBits (answered (device u ps) tick) ≡ 0
+      no-bit = refused-tick (device u ps)

@@ -1,7 +1,7 @@
 // The device whose page records the firmware lends, 1 to 96 of them, as a slice; the unpaged part goes in and comes back by
 // value. Power-on and the calls of the eight-page device, over as many pages as are lent. Any number of records, and any
 // values in them, are taken. A call takes one record out, asks the rules by value, and puts it back; of the others it only
-// asks whether they are valid and, after a clearing, whether a status bit stands. A write where PAGE is FFh walks over all:
+// asks whether they are valid and, after a clearing, whether a status bit stands. A tick walks over all, and so does a write where PAGE is FFh:
 // no record has that index, so the one taken out is none of them, and putting it back sets none.
 ghost use mathlib.Core.Path.{_≡_};
 ghost use mathlib.Core.Bool.{_&&_};
@@ -10,7 +10,7 @@ ghost use lib.ListN.{length, getD};
 ghost use Rattle.page.specs.Page.{noPage};
 ghost use Rattle.page.specs.Status.{supplies};
 ghost use Rattle.device.specs.Device.{device};
-ghost use Rattle.device.specs.Step.{write, read, measure, sample, alertResponse, step};
+ghost use Rattle.device.specs.Step.{write, read, measure, sample, alertResponse, tick, step};
 ghost use Rattle.lent.specs.Lent.{beside, powered};
 use page::Page;
 use unpaged::Unpaged;
@@ -56,7 +56,12 @@ pub extern "C" fn tongsorrel_lent_write(u: Unpaged, pages: &mut [Page], bytes: &
 
 // A read transaction: its header, and as many reply bytes as the host clocks.
 #[no_mangle]
-pub extern "C" fn tongsorrel_lent_read(u: Unpaged, pages: &[Page], header: &[u8], reply: &mut [u8]) -> Outcome
+pub extern "C" fn tongsorrel_lent_read(
+    u: Unpaged,
+    pages: &[Page],
+    header: &[u8],
+    reply: &mut [u8],
+) -> Outcome
     ensures { λ r. ⌜ (beside r (now (pages .entry)) ≡ step (device u (now (pages .entry))) (read (now (header .entry)) (length (now (reply .entry)))) .done)
         × (now (reply .exit) ≡ step (device u (now (pages .entry))) (read (now (header .entry)) (length (now (reply .entry)))) .reply) ⌝ }
 {
@@ -70,7 +75,13 @@ pub extern "C" fn tongsorrel_lent_read(u: Unpaged, pages: &[Page], header: &[u8]
 
 // The latest word of a quantity (0 VOUT, 1 IOUT, 2 VIN, 3 temperature) on a page.
 #[no_mangle]
-pub extern "C" fn tongsorrel_lent_measure(u: Unpaged, pages: &mut [Page], page: u8, quantity: u8, word: u16) -> Outcome
+pub extern "C" fn tongsorrel_lent_measure(
+    u: Unpaged,
+    pages: &mut [Page],
+    page: u8,
+    quantity: u8,
+    word: u16,
+) -> Outcome
     ensures { λ r. ⌜ beside r (now (pages .exit)) ≡ step (device u (now (pages .entry))) (measure page quantity word) .done ⌝ }
 {
     let seen = records::survey(pages);
@@ -91,7 +102,11 @@ pub extern "C" fn tongsorrel_lent_sample(u: Unpaged, pages: &[Page], power: u16)
 
 // The alert response: the device that holds the alert up answers with its address.
 #[no_mangle]
-pub extern "C" fn tongsorrel_lent_alert_response(u: Unpaged, pages: &[Page], reply: &mut [u8]) -> Outcome
+pub extern "C" fn tongsorrel_lent_alert_response(
+    u: Unpaged,
+    pages: &[Page],
+    reply: &mut [u8],
+) -> Outcome
     ensures { λ r. ⌜ (beside r (now (pages .entry)) ≡ step (device u (now (pages .entry))) (alertResponse (length (now (reply .entry)))) .done)
         × (now (reply .exit) ≡ step (device u (now (pages .entry))) (alertResponse (length (now (reply .entry)))) .reply) ⌝ }
 {
@@ -100,6 +115,20 @@ pub extern "C" fn tongsorrel_lent_alert_response(u: Unpaged, pages: &[Page], rep
     let t = turns::alert_turn(seen, u, n);
     reads::reply::send(reply, t.stream);
     t.outcome
+}
+
+// A tick: one unit of the delays on every page.
+#[no_mangle]
+pub extern "C" fn tongsorrel_lent_tick(u: Unpaged, pages: &mut [Page]) -> Outcome
+    ensures { λ r. ⌜ beside r (now (pages .exit)) ≡ step (device u (now (pages .entry))) tick .done ⌝ }
+{
+    let seen = records::survey(pages);
+    let r = turns::tick_outcome(seen, u);
+    if r.answer != answer::DONE {
+        return r;
+    }
+    records::tick(pages);
+    r
 }
 
 // Whether page i supplies; no page beyond the records does.

@@ -8,9 +8,9 @@ ghost use Rattle.page.specs.declared.Page.{Page as PageRecord};
 ghost use Rattle.page.specs.Page.{powerOnPage};
 ghost use Rattle.reads.specs.Reply.{streamOf, replyOf};
 ghost use Rattle.device.specs.Device.{device, deviceValid};
-ghost use Rattle.device.specs.Step.{write, read, measure, sample, alertResponse, answered, step};
+ghost use Rattle.device.specs.Step.{write, read, measure, sample, alertResponse, tick, answered, step};
 ghost use Rattle.records.specs.Records.{surveyed};
-ghost use Rattle.lent.specs.Lent.{beside, poweredOutcome, refusedOutcome, acceptedTurn, measuredTurn, writeTurn, measureTurn, finished, alertLeft};
+ghost use Rattle.lent.specs.Lent.{beside, outcome, poweredOutcome, refusedOutcome, acceptedTurn, measuredTurn, writeTurn, measureTurn, finished, alertLeft};
 use super::Outcome;
 use page::Page;
 use reads::reply::Stream;
@@ -198,6 +198,17 @@ pub fn sample_outcome(s: Seen, u: Unpaged, power: u16) -> Outcome
         };
     }
     refused_outcome(u, answer)
+}
+
+// A tick.
+pub fn tick_outcome(s: Seen, u: Unpaged) -> Outcome
+    ensures { λ r. ⌜ ((ps : List PageRecord) → s ≡ surveyed ps → r ≡ outcome u (answered (device u ps) tick)) ⌝ }
+{
+    let answer = answered(s, u, answer::DONE);
+    Outcome {
+        unpaged: u,
+        answer: answer,
+    }
 }
 
 // A read whose selected record is p, with n bytes clocked.

@@ -14,7 +14,7 @@ use Rattle.reads.specs.Reply.{replyOf, alertStream}
 use Rattle.device.specs.declared.Device.{Device}
 use Rattle.device.specs.declared.Done.{Done}
 use Rattle.device.specs.Device.{device, deviceValid}
-use Rattle.device.specs.Step.{Call, write, read, measure, sample, alertResponse, sent, clocked, step}
+use Rattle.device.specs.Step.{Call, write, read, measure, sample, alertResponse, tick, sent, clocked, step}
 use Rattle.history.specs.Run.{next, answer}
 use Rattle.history.specs.Valid.{Fifteen}
 use Rattle.history.specs.Refusals.{Unchanged, silent}
@@ -48,6 +48,7 @@ nothing-sent d (read header n) = refl
 nothing-sent d (measure page quantity word) = refl
 nothing-sent d (sample n) = refl
 nothing-sent d (alertResponse n) = refl
+nothing-sent d tick = refl
 
 module _ (d : Device) (c : Call) (z : answer d c ≡ 15) where
   pub fifteen-stays : next d c ≡ d

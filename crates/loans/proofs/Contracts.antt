@@ -15,7 +15,7 @@ use contract.Notation.{Connectives, connectives}
 use denote.Ref.{now}
 use denote.Triple.Entry.{Args, Res}
 use denote.Triple.Clauses.{Ended, AtExit, Clauses}
-use Rattle.device.specs.Step.{write, read, measure, sample, alertResponse}
+use Rattle.device.specs.Step.{write, read, measure, sample, alertResponse, tick}
 use Rattle.loans.specs.Alike.{DeviceDone, DeviceReply, LentDone, LentReply, DevicePowered, LentPowered, DeviceSupplies, LentSupplies}
 use Rattle.device.proofs.power_on as device-power-on
 use Rattle.device.proofs.write as device-write
@@ -23,6 +23,7 @@ use Rattle.device.proofs.read as device-read
 use Rattle.device.proofs.measure as device-measure
 use Rattle.device.proofs.sample as device-sample
 use Rattle.device.proofs.alert_response as device-alert
+use Rattle.device.proofs.tick as device-tick
 use Rattle.device.proofs.supply.supplies_page as device-supplies
 use Rattle.lent.proofs.tongsorrel_lent_power_on as lent-power-on
 use Rattle.lent.proofs.tongsorrel_lent_write as lent-write
@@ -30,6 +31,7 @@ use Rattle.lent.proofs.tongsorrel_lent_read as lent-read
 use Rattle.lent.proofs.tongsorrel_lent_measure as lent-measure
 use Rattle.lent.proofs.tongsorrel_lent_sample as lent-sample
 use Rattle.lent.proofs.tongsorrel_lent_alert_response as lent-alert
+use Rattle.lent.proofs.tongsorrel_lent_tick as lent-tick
 use Rattle.lent.proofs.tongsorrel_lent_supplies as lent-supplies
 
 module _ {M : Type 1} (𝓤 : URA M) (T : Ended) where
@@ -73,6 +75,10 @@ module _ {M : Type 1} (𝓤 : URA M) (H : Heap 𝓤) (A : Atoms 𝓤) (mem : Mem
       ∗ ⌜ DeviceReply (a .0) (alertResponse (length (now (a .1 .0)))) (now (e .1 .0)) ⌝)
   of-device-alert κs a g r e = refl
 
+  pub of-device-tick : Ensures 𝓤 device-tick.ended (device-tick.clauses 𝓤 H A mem run)
+      (λ κs a r e. ⌜ DeviceDone (a .0) tick r ⌝)
+  of-device-tick κs a g r e = refl
+
   pub of-device-supplies : Ensures 𝓤 device-supplies.ended (device-supplies.clauses 𝓤 H A mem run)
       (λ κs a r e. ⌜ DeviceSupplies (a .0) (a .1 .0) r ⌝)
   of-device-supplies κs a g r e = refl
@@ -103,6 +109,10 @@ module _ {M : Type 1} (𝓤 : URA M) (H : Heap 𝓤) (A : Atoms 𝓤) (mem : Mem
       (λ κs a r e. ⌜ LentDone (a .0) (now (a .1 .0)) (alertResponse (length (now (a .1 .1 .0)))) r (now (a .1 .0))
       × LentReply (a .0) (now (a .1 .0)) (alertResponse (length (now (a .1 .1 .0)))) (now (e .1 .1 .0)) ⌝)
   of-lent-alert κs a g r e = refl
+
+  pub of-lent-tick : Ensures 𝓤 lent-tick.ended (lent-tick.clauses 𝓤 H A mem run)
+      (λ κs a r e. ⌜ LentDone (a .0) (now (a .1 .0)) tick r (now (e .1 .0)) ⌝)
+  of-lent-tick κs a g r e = refl
 
   pub of-lent-supplies : Ensures 𝓤 lent-supplies.ended (lent-supplies.clauses 𝓤 H A mem run)
       (λ κs a r e. ⌜ LentSupplies (now (a .0)) (a .1 .0) r ⌝)

@@ -12,7 +12,7 @@ use Rattle.energy.specs.Reply.{Copy}
 use Rattle.energy.specs.Events.{Log, freshLog}
 use Rattle.device.specs.declared.Device.{Device}
 use Rattle.device.specs.Device.{device, powerOn, supported}
-use Rattle.device.specs.Step.{Call, write, read, measure, sample, alertResponse, step}
+use Rattle.device.specs.Step.{Call, write, read, measure, sample, alertResponse, tick, step}
 use Rattle.history.specs.Run.{next, answer, run}
 use Rattle.history.specs.Accepted.{codeOf}
 use Rattle.history.specs.Energy.{Turn, isEnergyReply, partOf, part, logPart, logAfter, TrueCopies, Demand3}
@@ -48,6 +48,7 @@ not-logged d (read header n) g copies z =
 not-logged d (measure page quantity word) g copies z = refl
 not-logged d (sample n) g copies z = rw z
 not-logged d (alertResponse n) g copies z = refl
+not-logged d tick g copies z = refl
 
 -- ---- a run of them
 

@@ -25,8 +25,8 @@ FifteenExactly =
     (u : Unpaged) (ps : List Page) (c : Call) (o : Outcome) (qs : List Page) → LentDone u ps c o qs
     → eqb (o .answer) 15 ≡ not (supported (length ps) && unpagedValid (length ps) u && allOf pageValid ps)
 
--- Records ps became qs: a write changes the selected one alone, or under FFh any; a measurement that of its page; no other call any (`touches`,
--- data sheet 15.2).
+-- Records ps became qs: a write changes the selected one alone, or under FFh any; a measurement that of its page; a tick any; no other call any
+-- (`touches`, data sheet 15.2).
 pub record Untouched (u : Unpaged) (ps : List Page) (c : Call) (qs : List Page) : Type 0 where
   pub number : length qs ≡ length ps
   pub others : (i : ℕ) → touches (device u ps) c i ≡ false → getD qs i noPage ≡ getD ps i noPage

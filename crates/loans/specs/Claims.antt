@@ -24,7 +24,7 @@ pub record LentClaims : Type 1 where
   pub fifteen-replies : FifteenReplies
   -- power-on with no record or more than ninety-six gets 15 and touches none
   pub power-on-leaves : PowerOnLeaves
-  -- a write changes the selected record, or under FFh any, a measurement that of its page, any other call none
+  -- a write changes the selected record, or under FFh any, a measurement that of its page, a tick any, a read, a sample and an alert response none
   pub records-stay : RecordsStay
   -- ---- runs of 1 to 96 records, with calls that get 15 between, whatever is lent to them (Runs.antt)
   -- these make no difference: state, answers and replies are those of the run without them,

@@ -1,5 +1,6 @@
 pub mod Written
 pub mod Settled
 pub mod Setters
+pub mod Ready
 pub mod Bits
 pub mod StatusWords

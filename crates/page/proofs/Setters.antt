@@ -2,22 +2,26 @@
 -- Assumes nothing.
 use Prim.Native.Nat.{ℕ, zero, suc, _%_, _<_, _≤_}
 use mathlib.Core.Path.{_≡_, refl, sym, _∙_}
-use mathlib.Core.Bool.{Bool, true, false, not, _&&_, _||_, and-false, and-true, and-eq-true-iff}
+use mathlib.Core.Bool.{Bool, true, false, not, _&&_, _||_, and-eq-true-iff, false≢true}
 use mathlib.Core.List.{List}
 use native.Mathlib.Omega.{arith}
 use lib.Dec.{eqb}
 use lib.ListN.{getD}
+use borrow.Author.Tests.{eqb-true}
 use Rattle.laws.specs.Bits.{bit}
 use Rattle.laws.proofs.Bits.{without-bit, zero-bit}
 use Rattle.laws.proofs.Branches.{either}
 use Rattle.laws.proofs.Lists.{set-cases}
+use Rattle.retry.specs.Response.{holdsAtOnce, waitsFirst}
+use Rattle.retry.specs.Machines.{allValid}
+use Rattle.retry.proofs.Side.{rested-valid, all-called-valid, all-ticked-valid}
 use Rattle.cause.specs.Causes.{causes, warnings}
 use Rattle.page.specs.declared.Page.{Page}
-use Rattle.page.specs.Page.{powerOnPage, noPage}
-use Rattle.page.specs.Causes.{settled}
+use Rattle.page.specs.Page.{resting, powerOnPage, noPage}
+use Rattle.page.specs.Causes.{presentCauses, moved, settled, ticked}
 use Rattle.page.specs.Latching.{statusBit}
-use Rattle.page.specs.Settings.{validOperation, validResponse, pageValid, setOperation, setVoutCommand, setLimit, setResponse, setMeasurement, clearBits}
-use Rattle.page.proofs.Written.{page-valid}
+use Rattle.page.specs.Settings.{validOperation, validResponse, pageValid, switchesOff, setOperation, setVoutCommand, setLimit, setResponse, setMeasurement, clearBits}
+use Rattle.page.proofs.Written.{valid-response, page-valid}
 
 -- the settings keep the status and the trip; only OPERATION 00h and 40h untrip
 module _ (p : Page) where
@@ -25,9 +29,9 @@ module _ (p : Page) where
   unfolding setOperation
   operation-status x = refl
 
-  pub operation-trip : (x : ℕ) → setOperation p x .tripped ≡ (p .tripped && not (eqb x 0x00 || eqb x 0x40))
+  pub operation-trip : (x : ℕ) → setOperation p x .tripped ≡ (p .tripped && not (switchesOff x))
   unfolding setOperation
-  operation-trip x = either (eqb x 0x00) (λ e. rw (e, and-false (p .tripped))) (λ e. rw (e, and-true (p .tripped)))
+  operation-trip x = refl
 
   pub command-status : (w : ℕ) → setVoutCommand p w .status ≡ p .status
   unfolding setVoutCommand
@@ -88,43 +92,51 @@ module _ (p : Page) where
 -- a valid page, by its parts
 pub record PageParts (p : Page) : Type 0 where
   pub operation : validOperation (p .operation) ≡ true
-  pub responses : (k : ℕ) → k < 6 → validResponse k (getD (p .responses) k 0) ≡ true
-
-both : (a b : Bool) → (a && b) ≡ true → (a ≡ true) × (b ≡ true)
-both a b = and-eq-true-iff a b .0
-
-six : (f : ℕ → Bool) → f 0 ≡ true → f 1 ≡ true → f 2 ≡ true → f 3 ≡ true → f 4 ≡ true → f 5 ≡ true → (k : ℕ) → k < 6 → f k ≡ true
-six f a b c d e g zero h = a
-six f a b c d e g (suc zero) h = b
-six f a b c d e g (suc (suc zero)) h = c
-six f a b c d e g (suc (suc (suc zero))) h = d
-six f a b c d e g (suc (suc (suc (suc zero)))) h = e
-six f a b c d e g (suc (suc (suc (suc (suc zero))))) h = g
-six f a b c d e g (suc (suc (suc (suc (suc (suc k)))))) h = absurd (omega arith)
+  pub current : validResponse 1 (getD (p .responses) 1 0) ≡ true
+  pub machines : allValid (p .machines) ≡ true
 
 module _ (p : Page) where
   pub page-parts : pageValid p ≡ true → PageParts p
   page-parts v =
       let o = validOperation (p .operation) in
-      let good : ℕ → Bool = λ k. validResponse k (getD (p .responses) k 0) in
-      let g = both (o && good 0 && good 1 && good 2 && good 3 && good 4) (good 5) (page-valid p ∙ v) in
-      let f = both (o && good 0 && good 1 && good 2 && good 3) (good 4) (g .0) in
-      let e = both (o && good 0 && good 1 && good 2) (good 3) (f .0) in
-      let d = both (o && good 0 && good 1) (good 2) (e .0) in
-      let c = both (o && good 0) (good 1) (d .0) in
-      let b = both o (good 0) (c .0) in
-      record { operation = b .0; responses = six good (b .1) (c .1) (d .1) (e .1) (f .1) (g .1) }
+      let r = validResponse 1 (getD (p .responses) 1 0) in
+      let a = and-eq-true-iff (o && r) (allValid (p .machines)) .0 (page-valid p ∙ v) in
+      let b = and-eq-true-iff o r .0 (a .0) in
+      record { operation = b .0; current = b .1; machines = a .1 }
 
   pub parts-valid : PageParts p → pageValid p ≡ true
-  parts-valid h =
-      let r = h .responses in
-      sym (page-valid p)
-      ∙ rw (h .operation, r 0 (omega arith), r 1 (omega arith), r 2 (omega arith), r 3 (omega arith), r 4 (omega arith), r 5 (omega arith))
+  parts-valid h = sym (page-valid p) ∙ rw (h .operation, h .current, h .machines)
+
+-- the response to IOUT_OC has action 00 or 11, so that its machine stays at rest
+module _ (x : ℕ) (v : validResponse 1 x ≡ true) where
+  is-or : (a b : Bool) → (a || b) ≡ true → (a ≡ false → b ≡ true)
+  is-or true b h n = absurd (false≢true (sym n))
+  is-or false b h n = h
+
+  calm : holdsAtOnce x ≡ false
+  calm =
+      either (eqb x 0x00) (λ e. rw (eqb-true x 0x00 e))
+      (λ e. rw (eqb-true x 0xC0 (is-or (eqb x 0x00) (eqb x 0xC0) (valid-response 1 x ∙ v) e)))
+
+  slow : waitsFirst x ≡ false
+  slow =
+      either (eqb x 0x00) (λ e. rw (eqb-true x 0x00 e))
+      (λ e. rw (eqb-true x 0xC0 (is-or (eqb x 0x00) (eqb x 0xC0) (valid-response 1 x ∙ v) e)))
 
 module _ (p : Page) where
   pub operation-valid : (x : ℕ) → pageValid p ≡ true → validOperation x ≡ true → pageValid (setOperation p x) ≡ true
-  unfolding setOperation
-  operation-valid x v e = parts-valid (setOperation p x) (record { operation = e; responses = page-parts p v .responses })
+  unfolding setOperation allValid
+  operation-valid x v e =
+      let old = page-parts p v in
+      parts-valid (setOperation p x)
+      (record {
+        operation = e;
+        current = old .current;
+        machines = either (switchesOff x) (λ y. rw y resting-valid) (λ n. rw n (old .machines));
+      })
+    where
+      resting-valid : allValid resting ≡ true
+      resting-valid = refl
 
   pub response-valid : (n x : ℕ) → n < 6 → pageValid p ≡ true → validResponse n x ≡ true → pageValid (setResponse p n x) ≡ true
   unfolding setResponse
@@ -133,11 +145,12 @@ module _ (p : Page) where
       parts-valid (setResponse p n x)
       (record {
         operation = old .operation;
-        responses = λ k hk. set-cases 0 (λ (z : ℕ). validResponse k z ≡ true) (p .responses) (n % 6) x k (old .responses k hk)
-            (λ same. let m : k ≡ n = omega arith in rw m e);
+        current = set-cases 0 (λ (z : ℕ). validResponse 1 z ≡ true) (p .responses) (n % 6) x 1 (old .current)
+            (λ same. let m : 1 ≡ n = omega arith in rw m e);
+        machines = rested-valid (p .machines) (old .machines) (n % 6);
       })
 
-  -- what is neither OPERATION nor a response does not matter
+  -- what is neither OPERATION nor a response nor a machine does not matter
   pub command-valid : (w : ℕ) → pageValid (setVoutCommand p w) ≡ pageValid p
   unfolding setVoutCommand pageValid
   command-valid w = refl
@@ -154,14 +167,34 @@ module _ (p : Page) where
   unfolding clearBits pageValid
   clear-valid ms = refl
 
-  pub settled-valid : pageValid (settled p) ≡ pageValid p
-  unfolding settled pageValid
-  settled-valid = refl
+  pub settled-valid : pageValid p ≡ true → pageValid (settled p) ≡ true
+  unfolding settled moved
+  settled-valid v =
+      let old = page-parts p v in
+      parts-valid (settled p)
+      (record {
+        operation = old .operation;
+        current = old .current;
+        machines =
+            all-called-valid (p .machines) (old .machines) (p .responses) (presentCauses p) (calm _ (old .current)) (slow _ (old .current));
+      })
+
+  pub ticked-valid : pageValid p ≡ true → pageValid (ticked p) ≡ true
+  unfolding ticked moved
+  ticked-valid v =
+      let old = page-parts p v in
+      parts-valid (ticked p)
+      (record {
+        operation = old .operation;
+        current = old .current;
+        machines =
+            all-ticked-valid (p .machines) (old .machines) (p .responses) (presentCauses p) (calm _ (old .current)) (slow _ (old .current));
+      })
 
 pub powered-valid : pageValid powerOnPage ≡ true
-unfolding pageValid powerOnPage validOperation causes warnings
+unfolding pageValid powerOnPage validOperation allValid causes warnings
 powered-valid = refl
 
 pub none-valid : pageValid noPage ≡ true
-unfolding pageValid validOperation causes warnings
+unfolding pageValid validOperation allValid causes warnings
 none-valid = refl

@@ -10,9 +10,10 @@ use Rattle.laws.specs.Lists.{anyOf}
 use Rattle.linear11.specs.declared.Order.{Order}
 use Rattle.linear11.specs.declared.Order.the-variants.{Below, Equal, Above}
 use Rattle.linear11.specs.Linear11.{linearOrder, wordOrder}
-use Rattle.cause.specs.Causes.{Side, above, below, VOUT, Limit, causes, faults, warnings, limits, staysOffAt, lastsAt, register}
+use Rattle.retry.specs.Machines.{allAtCall, allAtTick, anyTrips, anyTripsNow}
+use Rattle.cause.specs.Causes.{Side, above, below, VOUT, Limit, causes, faults, warnings, limits, tripsAt, lastsAt, register}
 use Rattle.page.specs.declared.Page.{Page}
-use Rattle.page.specs.Page.{withStatus, withTripped}
+use Rattle.page.specs.Page.{withMachines, withStatus, withTripped}
 
 -- how a word stands to a limit of that quantity (data sheet 5.2, 5.5): VOUT's as plain numbers, the others by their values
 unfoldable pub orderBy : ℕ → ℕ → ℕ → Order
@@ -63,21 +64,30 @@ marked c j (l ∷ ls) x =
 unfoldable pub raised : List ℕ → List Bool → List ℕ
 raised s c = map (λ j. marked c j limits (getD s j 0)) (0 ∷ 1 ∷ 2 ∷ 3 ∷ [])
 
--- some cause of c has a response, of those in r, that shuts down and stays off
-unfoldable pub staysOff : List Bool → List ℕ → Bool
-staysOff c r =
-    anyOf (λ x. getD c (x .limit .number) false && staysOffAt (x .response .actions) (getD r (x .limit .number) 0)) causes
+-- some cause of c has a response, of those in r, that trips the page without a retry machine
+unfoldable pub tripsAtOnce : List Bool → List ℕ → Bool
+tripsAtOnce c r =
+    anyOf (λ x. getD c (x .limit .number) false && tripsAt (x .response .actions) (getD r (x .limit .number) 0)) causes
 
 -- some cause of c has one that keeps the page off for as long as the cause is present
 unfoldable pub offWhileLasts : List Bool → List ℕ → Bool
 offWhileLasts c r =
     anyOf (λ x. getD c (x .limit .number) false && lastsAt (x .response .actions) (getD r (x .limit .number) 0)) causes
 
--- some present cause of the page shuts it down
+-- the page is shut down: by a present cause at once, or by a machine that has tripped it
 abbrev pub shutDown : Page → Bool
-shutDown p = staysOff (presentCauses p) (p .responses)
+shutDown p = tripsAtOnce (presentCauses p) (p .responses) || anyTrips (p .machines)
 
--- A page brought up to date with its present causes and warnings: their bits are set, and it is tripped where a cause shuts down (data sheet
--- 6.4, 6.14, 7.1).
+-- A page whose machines become ms in a step. It trips where one of them trips it in that step, or a present cause does at once (data sheet 7.1).
+unfoldable pub moved : Page → List ℕ → Page
+moved p ms =
+    withTripped (withMachines p ms) (p .tripped || tripsAtOnce (presentCauses p) (p .responses) || anyTripsNow (p .machines) ms)
+
+-- A page brought up to date with its present causes and warnings at the end of a call: their bits are set, and the machines of present causes
+-- start (data sheet 6.4, 6.14, 7.8).
 unfoldable pub settled : Page → Page
-settled p = withTripped (withStatus p (raised (p .status) (presentLimits p))) (p .tripped || shutDown p)
+settled p = withStatus (moved p (allAtCall (p .responses) (presentCauses p) (p .machines))) (raised (p .status) (presentLimits p))
+
+-- A tick on a page: its machines move on; no bit is set (data sheet 7.9).
+unfoldable pub ticked : Page → Page
+ticked p = moved p (allAtTick (p .responses) (presentCauses p) (p .machines))

@@ -6,6 +6,10 @@ use mathlib.Core.List.{List, [], _∷_, map}
 use Rattle.cause.specs.Causes.{limits, responses}
 use Rattle.page.specs.declared.Page.{Page}
 
+-- the machines of a page, none of them under way
+abbrev pub resting : List ℕ
+resting = 0 ∷ 0 ∷ 0 ∷ 0 ∷ 0 ∷ 0 ∷ []
+
 -- Data sheet 1.4 and 3.1: the output off, the limits and responses as the table of causes and warnings has them, nothing measured, no bit set, not
 -- tripped.
 unfoldable pub powerOnPage : Page
@@ -14,6 +18,7 @@ powerOnPage = record {
   command = 0x2666;
   limits = map (λ l. l .powerOnLimit) limits;
   responses = map (λ r. r .powerOnResponse) responses;
+  machines = resting;
   words = 0 ∷ 0 ∷ 0 ∷ 0 ∷ [];
   measured = false ∷ false ∷ false ∷ false ∷ [];
   status = 0 ∷ 0 ∷ 0 ∷ 0 ∷ [];
@@ -22,7 +27,7 @@ powerOnPage = record {
 
 -- what stands past the end of a list of pages
 abbrev pub noPage : Page
-noPage = record { operation = 0; command = 0; limits = []; responses = []; words = []; measured = []; status = []; tripped = false }
+noPage = record { operation = 0; command = 0; limits = []; responses = []; machines = []; words = []; measured = []; status = []; tripped = false }
 
 abbrev pub withOperation : Page → ℕ → Page
 withOperation p x = record {
@@ -30,6 +35,7 @@ withOperation p x = record {
   command = p .command;
   limits = p .limits;
   responses = p .responses;
+  machines = p .machines;
   words = p .words;
   measured = p .measured;
   status = p .status;
@@ -42,6 +48,7 @@ withCommand p w = record {
   command = w;
   limits = p .limits;
   responses = p .responses;
+  machines = p .machines;
   words = p .words;
   measured = p .measured;
   status = p .status;
@@ -54,6 +61,7 @@ withLimits p l = record {
   command = p .command;
   limits = l;
   responses = p .responses;
+  machines = p .machines;
   words = p .words;
   measured = p .measured;
   status = p .status;
@@ -66,6 +74,20 @@ withResponses p l = record {
   command = p .command;
   limits = p .limits;
   responses = l;
+  machines = p .machines;
+  words = p .words;
+  measured = p .measured;
+  status = p .status;
+  tripped = p .tripped;
+}
+
+abbrev pub withMachines : Page → List ℕ → Page
+withMachines p l = record {
+  operation = p .operation;
+  command = p .command;
+  limits = p .limits;
+  responses = p .responses;
+  machines = l;
   words = p .words;
   measured = p .measured;
   status = p .status;
@@ -78,6 +100,7 @@ withWords p l m = record {
   command = p .command;
   limits = p .limits;
   responses = p .responses;
+  machines = p .machines;
   words = l;
   measured = m;
   status = p .status;
@@ -90,6 +113,7 @@ withStatus p l = record {
   command = p .command;
   limits = p .limits;
   responses = p .responses;
+  machines = p .machines;
   words = p .words;
   measured = p .measured;
   status = l;
@@ -102,6 +126,7 @@ withTripped p b = record {
   command = p .command;
   limits = p .limits;
   responses = p .responses;
+  machines = p .machines;
   words = p .words;
   measured = p .measured;
   status = p .status;

@@ -6,12 +6,14 @@ use lib.ListN.{getD}
 use lib.Dec.{eqb}
 use lib.Bits.{bitOr}
 use Rattle.laws.specs.Bits.{bit}
+use Rattle.retry.specs.Machines.{anyHolds}
 use Rattle.page.specs.declared.Page.{Page}
 use Rattle.page.specs.Causes.{presentCauses, offWhileLasts, weigh}
 
--- it is on, not tripped, and no present cause keeps it off (data sheet 7.6)
+-- it is on, not tripped, no present cause keeps it off and no machine holds it off (data sheet 7.6)
 unfoldable pub supplies : Page → Bool
-supplies p = eqb (p .operation) 0x80 && not (p .tripped) && not (offWhileLasts (presentCauses p) (p .responses))
+supplies p =
+    eqb (p .operation) 0x80 && not (p .tripped) && not (offWhileLasts (presentCauses p) (p .responses)) && not (anyHolds (p .machines))
 
 -- the registers by name
 abbrev pub vout : Page → ℕ

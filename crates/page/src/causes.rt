@@ -3,7 +3,7 @@ ghost use mathlib.Core.Path.{_≡_};
 ghost use mathlib.Core.Bool.{_&&_};
 ghost use Rattle.linear11.specs.Linear11.{linearOrder, wordOrder};
 ghost use Rattle.cause.specs.Causes.{above, below};
-ghost use Rattle.page.specs.Causes.{onSide, presentCauses, presentWarnings, presentLimits, weigh, raised, staysOff, offWhileLasts, settled};
+ghost use Rattle.page.specs.Causes.{onSide, presentCauses, presentWarnings, presentLimits, weigh, raised, tripsAtOnce, offWhileLasts, moved, settled, ticked};
 use super::Page;
 use linear11::Order;
 
@@ -104,27 +104,37 @@ fn raised(p: Page, fault: [bool; 6], warning: [bool; 5]) -> [u8; 4]
     ]
 }
 
-// Some present cause has a response that shuts down and stays off: 80h, and C0h for IOUT_OC.
-fn stays_off(present: [bool; 6], responses: [u8; 6]) -> bool
-    ensures { λ r. ⌜ r ≡ staysOff present responses ⌝ }
+// Some present cause has a response that trips the page without a machine: C0h for IOUT_OC.
+fn trips_at_once(present: [bool; 6], responses: [u8; 6]) -> bool
+    ensures { λ r. ⌜ r ≡ tripsAtOnce present responses ⌝ }
 {
-    (present[0] & (responses[0] == 0x80))
-        | (present[1] & (responses[1] == 0xC0))
-        | (present[2] & (responses[2] == 0x80))
-        | (present[3] & (responses[3] == 0x80))
-        | (present[4] & (responses[4] == 0x80))
-        | (present[5] & (responses[5] == 0x80))
+    present[1] & (responses[1] == 0xC0)
 }
 
-// Some present cause has a response that keeps the page off while it lasts: C0h, which IOUT_OC has not.
+// Some present cause has a response that keeps the page off while it lasts: action 11, which IOUT_OC has not.
 pub fn off_while_lasts(present: [bool; 6], responses: [u8; 6]) -> bool
     ensures { λ r. ⌜ r ≡ offWhileLasts present responses ⌝ }
 {
-    (present[0] & (responses[0] == 0xC0))
-        | (present[2] & (responses[2] == 0xC0))
-        | (present[3] & (responses[3] == 0xC0))
-        | (present[4] & (responses[4] == 0xC0))
-        | (present[5] & (responses[5] == 0xC0))
+    (present[0] & (responses[0] / 64 == 3))
+        | (present[2] & (responses[2] / 64 == 3))
+        | (present[3] & (responses[3] / 64 == 3))
+        | (present[4] & (responses[4] / 64 == 3))
+        | (present[5] & (responses[5] / 64 == 3))
+}
+
+// The page with its machines as a step leaves them, tripped where one of them trips it or a present fault does at once.
+fn moved(p: Page, fault: [bool; 6], machines: [u8; 6]) -> Page
+    requires { ⌜ fault ≡ presentCauses p ⌝ }
+    ensures { λ r. ⌜ r ≡ moved p machines ⌝ }
+{
+    let before = p.machines;
+    let responses = p.responses;
+    let at_once = trips_at_once(fault, responses);
+    let now = retry::machines::any_trips_now(before, machines);
+    let mut q = p;
+    q.machines = machines;
+    q.tripped = p.tripped | at_once | now;
+    q
 }
 
 // The page brought up to date with its present causes and warnings, at the end of a call that touched it. Warnings never trip it.
@@ -133,11 +143,22 @@ pub fn settled(p: Page) -> Page
 {
     let fault = present_causes(p);
     let warning = present_warnings(p);
-    let responses = p.responses;
     let registers = raised(p, fault, warning);
-    let off = stays_off(fault, responses);
-    let mut q = p;
+    let before = p.machines;
+    let responses = p.responses;
+    let machines = retry::machines::all_at_call(before, responses, fault);
+    let mut q = moved(p, fault, machines);
     q.status = registers;
-    q.tripped = p.tripped | off;
     q
+}
+
+// A tick: the machines move on. No bit is set: a present cause has its bit already.
+pub fn ticked(p: Page) -> Page
+    ensures { λ r. ⌜ r ≡ ticked p ⌝ }
+{
+    let fault = present_causes(p);
+    let before = p.machines;
+    let responses = p.responses;
+    let machines = retry::machines::all_at_tick(before, responses, fault);
+    moved(p, fault, machines)
 }

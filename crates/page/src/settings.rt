@@ -1,5 +1,7 @@
 // What a host writes to a page and what is measured on it, each one change; and which data are valid.
 ghost use mathlib.Core.Path.{_≡_};
+ghost use mathlib.Core.Bool.{cond};
+ghost use Rattle.page.specs.Page.{resting};
 ghost use Rattle.page.specs.Settings.{validOperation, validResponse, pageValid, setOperation, setVoutCommand, setLimit, setResponse, setMeasurement, clearBits};
 use super::Page;
 
@@ -9,33 +11,44 @@ pub fn valid_operation(x: u8) -> bool
     (x == 0) | (x == 0x40) | (x == 0x80)
 }
 
-// Response 1 is IOUT_OC's: its bytes have the meanings of a current fault, where 80h has none.
+// Response 1 is IOUT_OC's: its bytes have the meanings of a current fault. Every byte is valid data of the others.
 pub fn valid_response(k: u8, x: u8) -> bool
     ensures { λ r. ⌜ r ≡ validResponse k x ⌝ }
 {
-    (x == 0) | ((k != 1) & (x == 0x80)) | (x == 0xC0)
+    (k != 1) | (x == 0) | (x == 0xC0)
 }
 
-// A page that no answer 15 goes to: OPERATION and every response are valid data.
+// A page that no answer 15 goes to: OPERATION and every response are valid data, and every machine is in a state that runs reach.
 pub fn page_valid(p: Page) -> bool
     ensures { λ r. ⌜ r ≡ pageValid p ⌝ }
 {
+    let machines = p.machines;
     valid_operation(p.operation)
-        & valid_response(0, p.responses[0])
         & valid_response(1, p.responses[1])
-        & valid_response(2, p.responses[2])
-        & valid_response(3, p.responses[3])
-        & valid_response(4, p.responses[4])
-        & valid_response(5, p.responses[5])
+        & retry::machines::all_valid(machines)
 }
 
-// OPERATION: 00h and 40h also untrip the page.
+// The machines, or all of them at rest.
+fn rested(machines: [u8; 6], rest: bool) -> [u8; 6]
+    ensures { λ r. ⌜ r ≡ cond rest resting machines ⌝ }
+{
+    if rest {
+        return [0, 0, 0, 0, 0, 0];
+    }
+    machines
+}
+
+// OPERATION: 00h and 40h also put the machines to rest and untrip the page.
 pub fn set_operation(p: Page, x: u8) -> Page
     ensures { λ r. ⌜ r ≡ setOperation p x ⌝ }
 {
+    let off = (x == 0) | (x == 0x40);
+    let before = p.machines;
+    let machines = rested(before, off);
     let mut q = p;
     q.operation = x;
-    q.tripped = p.tripped & (x != 0) & (x != 0x40);
+    q.machines = machines;
+    q.tripped = p.tripped & !off;
     q
 }
 
@@ -57,12 +70,14 @@ pub fn set_limit(p: Page, k: u8, word: u16) -> Page
     q
 }
 
+// A response; its machine is put to rest.
 pub fn set_response(p: Page, k: u8, x: u8) -> Page
     ensures { λ r. ⌜ r ≡ setResponse p k x ⌝ }
 {
     let i = (k % 6) as usize;
     let mut q = p;
     q.responses[i] = x;
+    q.machines[i] = 0;
     q
 }
 

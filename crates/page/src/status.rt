@@ -5,14 +5,16 @@ ghost use Rattle.page.specs.Status.{supplies, statusByte, statusHigh, re
 use super::Page;
 use super::causes;
 
-// OPERATION is on, the page is not tripped, and no present cause keeps it off while it lasts.
+// OPERATION is on, the page is not tripped, no present cause keeps it off while it lasts, and no machine holds it off.
 pub fn supplies(p: Page) -> bool
     ensures { λ r. ⌜ r ≡ supplies p ⌝ }
 {
     let present = causes::present_causes(p);
     let responses = p.responses;
-    let held = causes::off_while_lasts(present, responses);
-    (p.operation == 0x80) & !p.tripped & !held
+    let off = causes::off_while_lasts(present, responses);
+    let machines = p.machines;
+    let held = retry::machines::any_holds(machines);
+    (p.operation == 0x80) & !p.tripped & !off & !held
 }
 
 // STATUS_BYTE of a page that is on, which is to say supplies, or not. The CML register belongs to no page.

@@ -2,9 +2,11 @@
 // walks over all of them. No rule is decided here; a record goes to a rule by value and comes back.
 ghost use mathlib.Core.Path.{_≡_};
 ghost use mathlib.Core.Bool.{_&&_};
+ghost use mathlib.Core.List.{map};
 ghost use lib.ListN.{length, getD, set, replicate};
 ghost use Rattle.laws.specs.Lists.{anyOf};
 ghost use Rattle.page.specs.Page.{powerOnPage};
+ghost use Rattle.page.specs.Causes.{ticked};
 ghost use Rattle.page.specs.Status.{anyStatus};
 ghost use Rattle.records.specs.Records.{counted, surveyed};
 use page::Page;
@@ -88,6 +90,18 @@ pub fn power_on(pages: &mut [Page])
     let p = page::power_on_page();
     let mut i: usize = 0;
     while i < pages.len() {
+        pages[i] = p;
+        i = i + 1;
+    }
+}
+
+// A tick on every record.
+pub fn tick(pages: &mut [Page])
+    ensures { λ _. ⌜ now (pages .exit) ≡ map ticked (now (pages .entry)) ⌝ }
+{
+    let mut i: usize = 0;
+    while i < pages.len() {
+        let p = page::causes::ticked(pages[i]);
         pages[i] = p;
         i = i + 1;
     }

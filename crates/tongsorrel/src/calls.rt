@@ -1,8 +1,8 @@
-// The device: power-on and the five calls, the whole state by value in and back; and which supplies are on.
+// The device: power-on and the six calls, the whole state by value in and back; and which supplies are on.
 ghost use mathlib.Core.Path.{_≡_};
 ghost use lib.ListN.{length};
 ghost use Rattle.device.specs.Device.{powerOn};
-ghost use Rattle.device.specs.Step.{write, read, measure, sample, alertResponse, step};
+ghost use Rattle.device.specs.Step.{write, read, measure, sample, alertResponse, tick, step};
 ghost use Rattle.device.specs.Supply.{suppliesAt};
 use device::Device;
 use device::Done;
@@ -55,6 +55,14 @@ pub extern "C" fn tongsorrel_alert_response(d: Device, reply: &mut [u8]) -> Done
     ensures { λ r. ⌜ now (reply .exit) ≡ step d (alertResponse (length (now (reply .entry)))) .reply ⌝ }
 {
     device::alert_response(d, reply)
+}
+
+// A tick: one unit of the delays on every page.
+#[no_mangle]
+pub extern "C" fn tongsorrel_tick(d: Device) -> Done
+    ensures { λ r. ⌜ r ≡ step d tick .done ⌝ }
+{
+    device::tick(d)
 }
 
 // Whether the firmware keeps the supply of a page switched on; a page over 7 is off.

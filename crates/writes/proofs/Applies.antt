@@ -39,7 +39,7 @@ module _ (c : ℕ) (byte : c < 256) where
       (λ y. rw (eqb-true level 0x40 y) (agree-test (λ c. permitted 0x40 c) (λ c. permittedAt 0x40 c) 256 tt c byte))
       (λ n40. rw (n0, n20, n40) (agree-test (λ c. permitted 0x80 c) (λ c. permittedAt 0x80 c) 256 tt c byte))))
 
--- ---- which data are valid: the commands fall into six groups, and so do the codes
+-- ---- which data are valid: the commands fall into five groups, and so do the codes
 
 -- the valid bytes of a group
 abbrev validIn : ℕ → ℕ → ℕ → Bool
@@ -47,40 +47,38 @@ validIn group n x =
     cond (eqb group 0) (ltb x n || eqb x 0xFF)
     (cond (eqb group 1) (isIn x (0x00 ∷ 0x40 ∷ 0x80 ∷ []))
     (cond (eqb group 2) (isIn x (0x00 ∷ 0x20 ∷ 0x40 ∷ 0x80 ∷ []))
-    (cond (eqb group 3) (isIn x (0x00 ∷ 0x80 ∷ 0xC0 ∷ []))
-    (cond (eqb group 4) (isIn x (0x00 ∷ 0xC0 ∷ []))
-    true))))
+    (cond (eqb group 3) (isIn x (0x00 ∷ 0xC0 ∷ []))
+    true)))
 
 abbrev groupOfActions : Actions → ℕ
-groupOfActions voltage = 3
-groupOfActions current = 4
+groupOfActions voltage = 4
+groupOfActions current = 3
 
 abbrev groupOf : Command → ℕ
 groupOf SelectPage = 0
 groupOf Operation = 1
 groupOf WriteProtect = 2
 groupOf (Response k) = groupOfActions (responseOf k .actions)
-groupOf ClearFaults = 5
-groupOf Capability = 5
-groupOf VoutMode = 5
-groupOf VoutCommand = 5
-groupOf (Limit k) = 5
-groupOf StatusByte = 5
-groupOf StatusWord = 5
-groupOf (Status k) = 5
-groupOf ReadEin = 5
-groupOf (Reading q) = 5
-groupOf Revision = 5
-groupOf Absent = 5
+groupOf ClearFaults = 4
+groupOf Capability = 4
+groupOf VoutMode = 4
+groupOf VoutCommand = 4
+groupOf (Limit k) = 4
+groupOf StatusByte = 4
+groupOf StatusWord = 4
+groupOf (Status k) = 4
+groupOf ReadEin = 4
+groupOf (Reading q) = 4
+groupOf Revision = 4
+groupOf Absent = 4
 
 abbrev groupAt : ℕ → ℕ
 groupAt c =
     cond (eqb c 0x00) 0
     (cond (eqb c 0x01) 1
     (cond (eqb c 0x10) 2
-    (cond (isIn c (0x41 ∷ 0x50 ∷ 0x54 ∷ 0x56 ∷ 0x5A ∷ [])) 3
-    (cond (eqb c 0x47) 4
-    5))))
+    (cond (eqb c 0x47) 3
+    4)))
 
 same-groups : (c : ℕ) → c < 256 → groupOf (commandOf c) ≡ groupAt c
 unfolding commandOf settingOf faultOf readingOf causes
@@ -91,12 +89,11 @@ valid-code n c x =
     either (eqb c 0x00) (λ y. rw y)
     (λ a. either (eqb c 0x01) (λ y. rw (a, y))
     (λ b. either (eqb c 0x10) (λ y. rw (a, b, y))
-    (λ d. either (isIn c (0x41 ∷ 0x50 ∷ 0x54 ∷ 0x56 ∷ 0x5A ∷ [])) (λ y. rw (a, b, d, y))
-    (λ e. either (eqb c 0x47) (λ y. rw (a, b, d, e, y)) (λ f. rw (a, b, d, e, f))))))
+    (λ d. either (eqb c 0x47) (λ y. rw (a, b, d, y)) (λ e. rw (a, b, d, e)))))
 
 module _ (n x w : ℕ) (byte : x < 256) where
   valid-actions : (a : Actions) → validAt a x ≡ validIn (groupOfActions a) n x
-  valid-actions voltage = agree-test (validAt voltage) (λ x. isIn x (0x00 ∷ 0x80 ∷ 0xC0 ∷ [])) 256 tt x byte
+  valid-actions voltage = refl
   valid-actions current = agree-test (validAt current) (λ x. isIn x (0x00 ∷ 0xC0 ∷ [])) 256 tt x byte
 
   valid-command : (k : Command) → validWrite n (writeOf k x w) ≡ validIn (groupOf k) n x

@@ -26,15 +26,15 @@ codesAt level =
 abbrev pub permittedAt : ℕ → ℕ → Bool
 permittedAt level code = eqb level 0x00 || isIn code (0x03 ∷ 0x7A ∷ 0x7B ∷ 0x7C ∷ 0x7D ∷ 0x7E ∷ []) || isIn code (codesAt level)
 
--- the first data byte x is valid for a code, in a device with n pages; words may be any (data sheet 3.1, 3.6)
+-- the first data byte x is valid for a code, in a device with n pages; words and the responses of voltages and
+-- temperatures may be any (data sheet 3.1, 3.6)
 abbrev pub validFor : ℕ → ℕ → ℕ → Bool
 validFor n code x =
     cond (eqb code 0x00) (ltb x n || eqb x 0xFF)
     (cond (eqb code 0x01) (isIn x (0x00 ∷ 0x40 ∷ 0x80 ∷ []))
     (cond (eqb code 0x10) (isIn x (0x00 ∷ 0x20 ∷ 0x40 ∷ 0x80 ∷ []))
-    (cond (isIn code (0x41 ∷ 0x50 ∷ 0x54 ∷ 0x56 ∷ 0x5A ∷ [])) (isIn x (0x00 ∷ 0x80 ∷ 0xC0 ∷ []))
     (cond (eqb code 0x47) (isIn x (0x00 ∷ 0xC0 ∷ []))
-    true))))
+    true)))
 
 -- of the bytes s from START to STOP: the code, the number of bytes behind it, and the number of data bytes that the table gives the code
 abbrev pub code : List ℕ → ℕ

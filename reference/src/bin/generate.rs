@@ -82,6 +82,9 @@ fn limits(page: &Page) -> [u16; 11] {
     std::array::from_fn(|index| both[index])
 }
 
+/// Words far past each fault limit, by cause.
+const PAST: [u16; 6] = [0xFFFF, 0x7BFF, 0x7BFF, 0x7C00, 0x7BFF, 0x7C00];
+
 struct Generator {
     random: Random,
     model: Shelf,
@@ -133,10 +136,13 @@ impl Generator {
             return self.write_line(0x01, &[0x00]);
         }
         match self.random.below(1000) {
-            0..=269 => self.measurement(),
-            270..=569 => self.write(),
-            570..=759 => self.read(),
-            760..=819 => self.sample(),
+            0..=239 => self.measurement(),
+            240..=509 => self.write(),
+            510..=679 => self.read(),
+            680..=739 => vec![b'0', b'7'],
+            740..=749 => self.ticks_in_a_row(),
+            750..=757 => self.retries(),
+            758..=819 => self.sample(),
             820..=869 => self.alert(),
             870..=899 => self.clear_faults(),
             900..=914 => self.clear_by_ones(),
@@ -231,7 +237,7 @@ impl Generator {
         }
     }
 
-    // The five kinds of call.
+    // The kinds of call.
 
     fn measurement(&mut self) -> Vec<u8> {
         let page = match self.random.below(20) {
@@ -274,7 +280,7 @@ impl Generator {
             return self.limit_word(index).to_le_bytes().to_vec();
         }
         if RESPONSES.contains(&code) && valid {
-            return vec![self.random.pick(&[0x00, 0x80, 0xC0, 0xC0])];
+            return vec![self.response(code)];
         }
         match code {
             0x00 if valid => vec![self.page_data()],
@@ -287,6 +293,24 @@ impl Generator {
                 self.random.bytes(length)
             }
         }
+    }
+
+    /// A valid response: any byte, or one of those without retries.
+    fn response(&mut self, code: u8) -> u8 {
+        match self.random.below(3) {
+            _ if code == 0x47 => self.random.pick(&[0x00, 0xC0]),
+            0 => self.random.pick(&[0x00, 0x80, 0xC0, 0xC0]),
+            1 => self.retrying(),
+            _ => self.random.byte(),
+        }
+    }
+
+    /// A response that waits or retries, with a short delay more often than not.
+    fn retrying(&mut self) -> u8 {
+        let action = self.random.pick(&[0x40, 0x80]);
+        let retries = self.random.pick(&[0, 1, 1, 2, 3, 4, 5, 6, 7]);
+        let delay = self.random.pick(&[0, 1, 1, 2, 2, 3, 4, 5, 6, 7]);
+        action | retries << 3 | delay
     }
 
     /// PAGE data: one page, or at times all of them.
@@ -436,7 +460,10 @@ impl Generator {
             self.push_write(&[code, low, high]);
         }
         for code in RESPONSES {
-            let response = self.random.pick(&[0x00, 0x00, 0x80, 0xC0, 0xC0]);
+            let response = match self.random.below(2) {
+                0 => self.response(code),
+                _ => self.random.pick(&[0x00, 0xC0]),
+            };
             self.push_write(&[code, response]);
         }
         let measured = match page {
@@ -477,6 +504,61 @@ impl Generator {
             self.pending.push_back(line);
         }
         frame_line(0x02, &[8, 0xC0, 0x86, 0xC1])
+    }
+
+    /// Ticks, with the selected page looked at between them.
+    fn ticks_in_a_row(&mut self) -> Vec<u8> {
+        for _ in 0..self.random.below(12) {
+            self.pending.push_back(vec![b'0', b'7']);
+            self.pending
+                .push_back(frame_line(0x02, &[2, 0xC0, 0x78, 0xC1]));
+        }
+        vec![b'0', b'7']
+    }
+
+    /// A page that is on, with one cause under a response that retries; then ticks,
+    /// with the cause going and coming, and what rests a machine or does not.
+    fn retries(&mut self) -> Vec<u8> {
+        let page = self.some_number();
+        let index = self.random.pick(&[0, 2, 3, 4, 5]);
+        let (limit, quantity) = LIMITS[index];
+        let (code, past) = (RESPONSES[index], PAST[index]);
+        let defaults = limits(&Page::power_on());
+        let [low, high] = defaults[index].to_le_bytes();
+        let response = self.retrying();
+        let present = measurement_line(page, quantity as u8, past);
+        let gone = measurement_line(page, quantity as u8, CALM[quantity]);
+        self.push_write(&[0x00, page]);
+        self.push_write(&[limit, low, high]);
+        self.push_write(&[code, response]);
+        self.pending.push_back(gone.clone());
+        if self.random.percent(80) {
+            self.push_write(&[0x01, 0x00]);
+            self.push_write(&[0x01, 0x80]);
+        }
+        self.pending.push_back(present.clone());
+        for _ in 0..self.random.below(60) {
+            match self.random.below(80) {
+                0..=2 => self.pending.push_back(gone.clone()),
+                3..=7 => self.pending.push_back(present.clone()),
+                8 => self.push_write(&[code, response]),
+                9 => {
+                    let operation = self.random.pick(&[0x00, 0x40, 0x80]);
+                    self.push_write(&[0x01, operation]);
+                }
+                10 => self.push_write(&[0x01, 0x80]),
+                11 => self.push_write(&[0x03]),
+                12 => self.push_write(&[0x7A + quantity as u8, 0xFF]),
+                13 => {
+                    let line = self.measurement();
+                    self.pending.push_back(line);
+                }
+                _ => self.pending.push_back(vec![b'0', b'7']),
+            }
+            let look = frame_line(0x02, &[1, 0xC0, 0x78, 0xC1]);
+            self.pending.push_back(look);
+        }
+        frame_line(0x01, &[0xC0, 0x10, 0x00])
     }
 
     /// Sixteen neighbouring codes, read or written.
@@ -563,13 +645,14 @@ impl Generator {
         line
     }
 
-    /// Too few or too many bytes for 02 to 05.
+    /// Too few or too many bytes for 02 to 05 and 07.
     fn wrong_count(&mut self) -> Vec<u8> {
         let (first, counts): (u8, &[usize]) = self.random.pick(&[
             (0x02, &[0][..]),
             (0x03, &[0, 1, 2, 3, 5, 6][..]),
             (0x04, &[0, 1, 3, 4][..]),
             (0x05, &[0, 2, 3][..]),
+            (0x07, &[1, 2, 3][..]),
         ]);
         let count = self.random.pick(counts);
         let bytes = self.random.bytes(count);

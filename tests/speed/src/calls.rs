@@ -238,6 +238,37 @@ pub fn sample(name: &str) {
     );
 }
 
+/// A tick with every page within its limits; and with VOUT above its limit on each, under retries for ever and delay 2.
+pub fn tick(name: &str, failing: bool) {
+    let value = black_box(by_value::tick as fn(Device) -> Done);
+    let place = black_box(in_place::tick as fn(&mut Device) -> u8);
+    let mut start = supplying(ONE_PAGE);
+    if failing {
+        for page in &mut start.pages {
+            page.responses[0] = 0xBA;
+        }
+        for page in 0..8 {
+            start.measure(page, 0, 0x7BFF);
+        }
+    }
+    device_calls(
+        name,
+        0,
+        start,
+        |device, _, _| {
+            let done = library::tick(*device);
+            *device = done.device;
+            done.answer
+        },
+        |device, _, _| {
+            let done = value(*device);
+            *device = done.device;
+            done.answer
+        },
+        |device, _, _| place(device),
+    );
+}
+
 /// An answered alert response: the alert is put up before each.
 pub fn alert_response(name: &str) {
     let n = black_box(1);

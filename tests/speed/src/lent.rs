@@ -104,6 +104,11 @@ mod routines {
     }
 
     #[inline(never)]
+    pub fn tick((unpaged, pages): &mut Theirs) -> u8 {
+        second::tick(unpaged, pages)
+    }
+
+    #[inline(never)]
     pub fn alert_response((unpaged, pages): &mut Theirs, reply: &mut Reply, n: usize) -> u8 {
         second::alert_response(unpaged, pages, &mut reply[..n])
     }
@@ -163,6 +168,15 @@ pub fn rows(number: usize) {
         |state, _, input| routines::measure(state, (input % number) as u8, 0, word(input)),
     );
     sample(number);
+    row(
+        "tick",
+        supplying(number),
+        |state, _, _| {
+            let done = library::lent::tick(state.0, &mut state.1);
+            keep(state, done)
+        },
+        |state, _, _| routines::tick(state),
+    );
     let one = black_box(1);
     row(
         "alert response",

@@ -21,6 +21,8 @@ fn main() {
     calls::read("read, READ_EIN", 0x86, 7);
     calls::measure("measure");
     calls::sample("sample");
+    calls::tick("tick", false);
+    calls::tick("tick, every page trying again", true);
     calls::alert_response("alert response, answered");
     calls::totalizer("totalizer, one reply");
 

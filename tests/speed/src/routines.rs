@@ -97,6 +97,12 @@ pub mod by_value {
     }
 
     #[inline(never)]
+    pub fn tick(mut device: Device) -> Done {
+        let answer = device.tick();
+        Done { device, answer }
+    }
+
+    #[inline(never)]
     pub fn alert_response(mut device: Device, reply: &mut [u8]) -> Done {
         let answer = device.alert_response(reply);
         Done { device, answer }
@@ -130,6 +136,11 @@ pub mod in_place {
     #[inline(never)]
     pub fn sample(device: &mut Device, sample: u16) -> u8 {
         device.sample(sample)
+    }
+
+    #[inline(never)]
+    pub fn tick(device: &mut Device) -> u8 {
+        device.tick()
     }
 
     #[inline(never)]

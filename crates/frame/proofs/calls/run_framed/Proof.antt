@@ -56,15 +56,25 @@ returns-5 : tie.Need-returns-5
 unfolding framed outcome
 returns-5 c = search frames
 
-refuse-requires : tie.Need-refuse-requires
-refuse-requires c κs = search needs
+tick-requires : tie.Need-tick-requires
+tick-requires c κs = search needs
 
 same-length-6 : tie.Need-same-length-6
 same-length-6 c = search needs
 
 returns-6 : tie.Need-returns-6
 unfolding framed outcome
-returns-6 c = search frames
+returns-6 c = search frames depth 30 fits 40000
+
+refuse-requires : tie.Need-refuse-requires
+refuse-requires c κs = search needs
+
+same-length-7 : tie.Need-same-length-7
+same-length-7 c = search needs
+
+returns-7 : tie.Need-returns-7
+unfolding framed outcome
+returns-7 c = search frames depth 30 fits 40000
 
 pub run-framed-spec : {M : Type 1} → statement M
 run-framed-spec =
@@ -85,6 +95,9 @@ run-framed-spec =
     alert-response-requires
     same-length-5
     returns-5
-    refuse-requires
+    tick-requires
     same-length-6
-    returns-6)
+    returns-6
+    refuse-requires
+    same-length-7
+    returns-7)

@@ -14,8 +14,11 @@ present-warnings-requires c κs = search needs
 raised-requires : tie.Need-raised-requires
 raised-requires c κs = search needs
 
-stays-off-requires : tie.Need-stays-off-requires
-stays-off-requires c κs = search needs
+all-at-call-requires : tie.Need-all-at-call-requires
+all-at-call-requires c κs = search needs
+
+moved-requires : tie.Need-moved-requires
+moved-requires c κs = search needs
 
 returns : tie.Need-returns
 unfolding settled
@@ -23,4 +26,11 @@ returns c = cc
 
 pub settled-spec : {M : Type 1} → statement M
 settled-spec =
-    tie.close (tie.spec present-causes-requires present-warnings-requires raised-requires stays-off-requires returns)
+    tie.close
+    (tie.spec
+    present-causes-requires
+    present-warnings-requires
+    raised-requires
+    all-at-call-requires
+    moved-requires
+    returns)

@@ -12,9 +12,12 @@ cast-i c = search needs
 element-write-q : tie.Need-element-write-q
 element-write-q c = search needs
 
+element-write-q-2 : tie.Need-element-write-q-2
+element-write-q-2 c = search needs
+
 returns : tie.Need-returns
 unfolding setResponse
 returns c = refl
 
 pub set-response-spec : {M : Type 1} → statement M
-set-response-spec = tie.close (tie.spec cast-i element-write-q returns)
+set-response-spec = tie.close (tie.spec cast-i element-write-q element-write-q-2 returns)
