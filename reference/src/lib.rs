@@ -13,4 +13,5 @@ pub mod linear11;
 pub mod machine;
 pub mod page;
 pub mod pec;
+pub mod stream;
 pub mod totalizer;

@@ -7,6 +7,7 @@ ghost use Rattle.device.specs.Step.{write, read, measure, sample, alertR
 use page::Page;
 use unpaged::Unpaged;
 
+pub mod answers; // answers.rt: the test for answer 15, what a refusal leaves
 pub mod pages; // pages.rt: tests over the eight pages
 mod steps; // steps.rt: the parts of a call
 pub mod supply; // supply.rt: whether a supply is on
@@ -40,9 +41,9 @@ pub fn write(d: Device, bytes: &[u8]) -> Done
     ensures { λ r. ⌜ r ≡ step d (write (now (bytes .entry))) .done ⌝ }
 {
     let u = d.unpaged;
-    let valid = steps::device_valid(d);
+    let valid = answers::device_valid(d);
     let j = writes::answers::judge(8, u, bytes);
-    let answer = steps::answered(valid, j.answer);
+    let answer = answers::answered(valid, j.answer);
     let w = j.write;
     let next = steps::after_write(d, answer, w);
     Done {
@@ -58,12 +59,12 @@ pub fn read(d: Device, header: &[u8], reply: &mut [u8]) -> Done
 {
     let n = reply.len();
     let u = d.unpaged;
-    let valid = steps::device_valid(d);
+    let valid = answers::device_valid(d);
     let rule = reads::answers::read_answer(u, header, n);
-    let answer = steps::answered(valid, rule);
+    let answer = answers::answered(valid, rule);
     let stream = steps::read_stream(d, answer, header, n);
     reads::reply::send(reply, stream);
-    let next = steps::refused(d, answer);
+    let next = answers::refused(d, answer);
     Done {
         device: next,
         answer: answer,
@@ -74,9 +75,9 @@ pub fn read(d: Device, header: &[u8], reply: &mut [u8]) -> Done
 pub fn measure(d: Device, page: u8, quantity: u8, word: u16) -> Done
     ensures { λ r. ⌜ r ≡ step d (measure page quantity word) .done ⌝ }
 {
-    let valid = steps::device_valid(d);
+    let valid = answers::device_valid(d);
     let rule = unpaged::events::measure_answer(8, page, quantity);
-    let answer = steps::answered(valid, rule);
+    let answer = answers::answered(valid, rule);
     let next = steps::after_measure(d, answer, page, quantity, word);
     Done {
         device: next,
@@ -89,10 +90,10 @@ pub fn sample(d: Device, power: u16) -> Done
     ensures { λ r. ⌜ r ≡ step d (sample power) .done ⌝ }
 {
     let energy = d.unpaged.energy;
-    let valid = steps::device_valid(d);
+    let valid = answers::device_valid(d);
     let s = account::sample(energy, power);
     let a = s.account;
-    let answer = steps::answered(valid, s.answer);
+    let answer = answers::answered(valid, s.answer);
     let next = steps::after_sample(d, answer, power, a);
     Done {
         device: next,
@@ -106,9 +107,9 @@ pub fn alert_response(d: Device, reply: &mut [u8]) -> Done
     ensures { λ r. ⌜ now (reply .exit) ≡ step d (alertResponse (length (now (reply .entry)))) .reply ⌝ }
 {
     let n = reply.len();
-    let valid = steps::device_valid(d);
+    let valid = answers::device_valid(d);
     let rule = unpaged::events::alert_answer(d.unpaged.alert, n);
-    let answer = steps::answered(valid, rule);
+    let answer = answers::answered(valid, rule);
     let stream = reads::reply::alert_stream(answer);
     reads::reply::send(reply, stream);
     let next = steps::after_alert(d, answer);
@@ -122,8 +123,8 @@ pub fn alert_response(d: Device, reply: &mut [u8]) -> Done
 pub fn tick(d: Device) -> Done
     ensures { λ r. ⌜ r ≡ step d tick .done ⌝ }
 {
-    let valid = steps::device_valid(d);
-    let answer = steps::answered(valid, answer::DONE);
+    let valid = answers::device_valid(d);
+    let answer = answers::answered(valid, answer::DONE);
     let next = steps::after_tick(d, answer);
     Done {
         device: next,

@@ -10,46 +10,16 @@ ghost use Rattle.page.specs.Status.{any, anyStatus};
 ghost use Rattle.writes.specs.Left.{clearing};
 ghost use Rattle.reads.specs.Reply.{stream};
 ghost use Rattle.unpaged.specs.Unpaged.{validPage, withAlert, withEnergy};
-ghost use Rattle.device.specs.Device.{device, deviceValid};
+ghost use Rattle.device.specs.Device.{device};
 ghost use Rattle.device.specs.Step.{read, measure, sample, alertResponse, tick, answered, written, measured, tickedDevice, refusedDevice, left, sent, done, step};
 use super::Device;
+use super::answers;
 use super::pages;
 use account::Account;
 use page::Page;
 use reads::reply::Stream;
 use unpaged::Unpaged;
 use writes::Write;
-
-// A state that no answer 15 goes to.
-pub fn device_valid(d: Device) -> bool
-    ensures { λ r. ⌜ r ≡ deviceValid d ⌝ }
-{
-    let u = d.unpaged;
-    let ps = d.pages;
-    unpaged::unpaged_valid(8, u) & pages::all_valid(ps)
-}
-
-// The answer of a call, which is 15 whatever it is where the state is not valid.
-pub fn answered(valid: bool, answer: u8) -> u8
-    ensures { λ r. ⌜ r ≡ cond valid answer 15 ⌝ }
-{
-    if !valid {
-        return answer::INVALID_STATE;
-    }
-    answer
-}
-
-pub fn refused(d: Device, answer: u8) -> Device
-    ensures { λ r. ⌜ r ≡ refusedDevice d answer ⌝ }
-{
-    let u = d.unpaged;
-    let ps = d.pages;
-    let v = unpaged::refused(u, answer);
-    Device {
-        unpaged: v,
-        pages: ps,
-    }
-}
 
 // The alert after an accepted write: after a clearing, up exactly when a bit stands on any page or in STATUS_CML.
 fn alert_after(w: Write, u: Unpaged, ps: [Page; 8], rose: bool) -> bool
@@ -114,7 +84,7 @@ pub fn after_write(d: Device, answer: u8, w: Write) -> Device
     if answer == answer::DONE {
         return written(d, w);
     }
-    refused(d, answer)
+    answers::refused(d, answer)
 }
 
 // What a read sends with its answer: of the selected page.
@@ -153,7 +123,7 @@ pub fn after_measure(d: Device, answer: u8, page: u8, quantity: u8, word: u16) -
     if answer == answer::DONE {
         return measured(d, page, quantity, word);
     }
-    refused(d, answer)
+    answers::refused(d, answer)
 }
 
 fn with_account(d: Device, a: Account) -> Device
@@ -176,7 +146,7 @@ pub fn after_sample(d: Device, answer: u8, power: u16, a: Account) -> Device
     if answer == answer::DONE {
         return with_account(d, a);
     }
-    refused(d, answer)
+    answers::refused(d, answer)
 }
 
 // An answered alert response takes the alert down.
@@ -194,7 +164,7 @@ pub fn after_alert(d: Device, answer: u8) -> Device
     if answer == answer::DONE {
         return alert_down(d);
     }
-    refused(d, answer)
+    answers::refused(d, answer)
 }
 
 // A tick, page after page.
@@ -220,5 +190,5 @@ pub fn after_tick(d: Device, answer: u8) -> Device
     if answer == answer::DONE {
         return ticked(d);
     }
-    refused(d, answer)
+    answers::refused(d, answer)
 }

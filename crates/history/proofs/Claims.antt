@@ -5,7 +5,7 @@ use Rattle.history.proofs.Accepted.{accepted}
 use Rattle.history.proofs.Alert.{alert-rises, alert-cleared, alert-answered}
 use Rattle.history.proofs.Cml.{latches-cml, falls-cml}
 use Rattle.history.proofs.Effects.{effects}
-use Rattle.history.proofs.Energy.{demand3}
+use Rattle.history.proofs.Energy.{totals-trusted}
 use Rattle.history.proofs.Latching.{latched, latches, falls}
 use Rattle.history.proofs.Outcomes.{refused-call, takes-effect}
 use Rattle.history.proofs.PageAfter.{pages-stay}
@@ -55,5 +55,5 @@ claims =
       alert-rises = alert-rises;
       alert-cleared = alert-cleared;
       alert-answered = alert-answered;
-      demand3 = demand3;
+      totals-trusted = totals-trusted;
     }

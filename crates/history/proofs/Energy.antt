@@ -22,7 +22,7 @@ use Rattle.device.specs.Device.{powerOn, deviceValid}
 use Rattle.device.specs.Step.{Call, write, read, measure, sample, alertResponse, tick, answerOf, answered, effect, sent, step}
 use Rattle.history.specs.Run.{next, answer}
 use Rattle.history.specs.Accepted.{codeOf}
-use Rattle.history.specs.Energy.{Turn, isEnergyReply, partOf, part, logPart, logAfter, CopiesOf, TrueCopies, Demand3}
+use Rattle.history.specs.Energy.{Turn, isEnergyReply, partOf, part, logPart, logAfter, CopiesOf, TrueCopies, TotalsTrusted}
 use Rattle.device.proofs.States.{answer-zero}
 use Rattle.history.proofs.Outcomes.{done-next, by-answer}
 use Rattle.history.proofs.Account.{energyOf, refused-keeps, write-keeps, read-keeps, measure-keeps, alert-keeps, tick-keeps}
@@ -80,6 +80,6 @@ after-calls d l [] g m = g .claims
 after-calls d l (t ∷ ts) g m =
     after-calls (next d (t .call)) (logPart l (t .copies) (part d t)) ts (after-call d l g (t .call) (t .copies) (m .0)) (m .1)
 
-pub demand3 : Demand3
-unfolding Demand3 powerOn powerOnUnpaged
-demand3 n ts m = after-calls (powerOn n) freshLog ts at-start m
+pub totals-trusted : TotalsTrusted
+unfolding TotalsTrusted powerOn powerOnUnpaged
+totals-trusted n ts m = after-calls (powerOn n) freshLog ts at-start m

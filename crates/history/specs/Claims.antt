@@ -11,7 +11,7 @@ use Rattle.history.specs.Tripping.{Tripped, StaysTripped, Trips}
 use Rattle.history.specs.Retry.{TickQuiet, StaysDown, LetsOnAgain, LetsOnByTicks}
 use Rattle.history.specs.Warnings.{StayAlike, ReplyAlike, WarnLimitsAside, SupplyAlike}
 use Rattle.history.specs.Alert.{AlertRises, AlertCleared, AlertAnswered}
-use Rattle.history.specs.Energy.{Demand3}
+use Rattle.history.specs.Energy.{TotalsTrusted}
 use Rattle.history.specs.Effects.{Effects}
 use Rattle.history.specs.ReadBack.{StoredCodes, WrittenBack, WriteThenRead, MeasuredBack}
 
@@ -94,4 +94,4 @@ pub record Claims : Type 0 where
   pub alert-answered : AlertAnswered
   -- ---- energy (Energy.antt; data sheet 10)
   -- the host's totals are those of the samples that the device took, whichever replies are lost, repeated or damaged
-  pub demand3 : Demand3
+  pub totals-trusted : TotalsTrusted

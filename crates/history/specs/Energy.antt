@@ -66,5 +66,5 @@ TrueCopies d (t ∷ ts) = CopiesOf (t .copies) (part d t) × TrueCopies (next d 
 
 -- For every number of pages, every list of calls from one power-on and a fresh totalizer. AtEachCopy (crate energy) is what holds at each copy
 -- that the totalizer got: a changed one is refused, an intact one accepted, and the totals are the tally.
-unfoldable pub Demand3 : Type 0
-Demand3 = (n : ℕ) (ts : List Turn) → TrueCopies (powerOn n) ts → AtEachCopy (logAfter (powerOn n) freshLog ts .history)
+unfoldable pub TotalsTrusted : Type 0
+TotalsTrusted = (n : ℕ) (ts : List Turn) → TrueCopies (powerOn n) ts → AtEachCopy (logAfter (powerOn n) freshLog ts .history)

@@ -15,8 +15,8 @@ use Rattle.device.specs.Device.{device, powerOn, supported}
 use Rattle.device.specs.Step.{Call, write, read, measure, sample, alertResponse, tick, step}
 use Rattle.history.specs.Run.{next, answer, run}
 use Rattle.history.specs.Accepted.{codeOf}
-use Rattle.history.specs.Energy.{Turn, isEnergyReply, partOf, part, logPart, logAfter, TrueCopies, Demand3}
-use Rattle.history.proofs.Energy.{demand3}
+use Rattle.history.specs.Energy.{Turn, isEnergyReply, partOf, part, logPart, logAfter, TrueCopies, TotalsTrusted}
+use Rattle.history.proofs.Energy.{totals-trusted}
 use Rattle.lent.specs.Lent.{powered}
 use Rattle.loans.specs.Loans.{Loan}
 use Rattle.loans.specs.Runs.{LentCall, own, stray, strayPowerOn, lentNext, Gets15, StraysGet15, lentRun, ownResults, lentPart, lentCopies, lentLog, TrueLentCopies, ownTurns, ownCalls, results, started, StraysDropOut, CarriesOver, LentEnergy}
@@ -101,9 +101,9 @@ unfolding CarriesOver StraysDropOut
 carries-over P ps ms h z f = subst (P (ownCalls ms)) (sym (strays-drop-out ps ms h z .state)) (f (ownCalls ms))
 
 pub lent-energy : LentEnergy
-unfolding LentEnergy Demand3
+unfolding LentEnergy TotalsTrusted
 lent-energy ps ms h z m =
     let s = started-at ps h in
     let y = rw s at z in
     let d = powerOn (length ps) in
-    rw (s, drop-log d freshLog ms y) (demand3 (length ps) (ownTurns ms) (drop-copies d ms y (rw s at m)))
+    rw (s, drop-log d freshLog ms y) (totals-trusted (length ps) (ownTurns ms) (drop-copies d ms y (rw s at m)))

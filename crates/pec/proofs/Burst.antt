@@ -10,7 +10,7 @@ use lib.ListN.{length, take, drop, getD, length-take, length-drop, take-append-d
 use lib.Seq.{ext-getD, getD-take, getD-drop, drop-drop, take-all, take-suc}
 use Rattle.laws.specs.Lists.{Bytes}
 use Rattle.pec.specs.Pec.{pecFrom}
-use Rattle.pec.specs.Burst.{bits8, busBits, Changed}
+use Rattle.pec.specs.Burst.{bits8, busBits, Changed, BurstFound, NotBoth}
 use Rattle.pec.proofs.Laws.{own-check}
 use Rattle.pec.proofs.Bits.{fold, fold-append, fold-lt, bytes-bits}
 use Rattle.pec.proofs.Window.{window, kept}
@@ -97,3 +97,11 @@ pub not-both : (r n : ℕ) (s t : List ℕ) → r < 256 → length s ≡ suc n �
     → pecFrom r (take n s) ≡ getD s n 0 → pecFrom r (take n t) ≡ getD t n 0 → ⊥
 not-both r n s t hr l hs ht c p q =
     burst s t c hs ht r hr (closes r n s l p ∙ sym (closes r n t (sym (c .same-length) ∙ l) q))
+
+pub burst-found : BurstFound
+unfolding BurstFound
+burst-found = burst
+
+pub never-both : NotBoth
+unfolding NotBoth
+never-both = not-both

@@ -3,10 +3,12 @@
 use mathlib.Core.Path.{_≡_}
 use mathlib.Core.Logic.{_⊎_}
 use mathlib.Core.Bool.{Bool, false}
-use Prim.Native.Nat.{ℕ, _+_, _/_, _%_, _<_, _≤_}
+use Prim.Native.Nat.{ℕ, suc, _+_, _/_, _%_, _<_, _≤_}
 use mathlib.Core.List.{List, [], _∷_, _++_}
 use lib.Dec.{eqb}
-use lib.ListN.{length, getD}
+use lib.ListN.{length, getD, take}
+use Rattle.laws.specs.Lists.{Bytes}
+use Rattle.pec.specs.Pec.{pecFrom}
 
 -- the bits of a byte as they go over the bus, high bit first
 unfoldable pub bits8 : ℕ → List Bool
@@ -25,3 +27,13 @@ pub record Changed (s t : List ℕ) : Type 0 where
   pub first : ℕ
   pub outside : (n : ℕ) → (n < first) ⊎ (first + 8 ≤ n) → getD (busBits s) n false ≡ getD (busBits t) n false
   pub changed : busBits s ≡ busBits t → ⊥
+
+-- The burst law (data sheet 15.8): a damaged copy, of whatever length, has another check, from whatever register both start
+unfoldable pub BurstFound : Type 0
+BurstFound = (s t : List ℕ) → Changed s t → Bytes s → Bytes t → (r : ℕ) → r < 256 → pecFrom r s ≡ pecFrom r t → ⊥
+
+-- so that of a message with its check at place n and a damaged copy of both, not both end in the right check; r is that of a header which both have
+unfoldable pub NotBoth : Type 0
+NotBoth =
+    (r n : ℕ) (s t : List ℕ) → r < 256 → length s ≡ suc n → Bytes s → Bytes t → Changed s t → pecFrom r (take n s) ≡ getD s n 0
+    → pecFrom r (take n t) ≡ getD t n 0 → ⊥

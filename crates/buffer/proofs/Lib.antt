@@ -1,0 +1,5 @@
+pub mod Laws
+pub mod Places
+pub mod Pages
+pub mod Turns
+pub mod Claims

@@ -1,0 +1,47 @@
+-- `buffer::steps::clock_turn` meets its contract.
+-- Assumes nothing.
+use Rattle.buffer.proofs.Turns.{was-ready, was-not, ready-long, finds-none, finds, clock-next, clock-gives}
+use Rattle.buffer.specs.Buffer.{ready, gives, refuses}
+use mathlib.Core.Path.{_≡_, refl}
+use mathlib.Core.Bool.{true}
+use native.Mathlib.Omega.{arith}
+use borrow.Author.Needs.{needs}
+use Rattle.buffer.proofs.steps.clock_turn.Statement.{statement}
+use Rattle.buffer.proofs.steps.clock_turn.Tie as tie
+
+ready-requires : tie.Need-ready-requires
+ready-requires c κs = search needs
+
+refused-requires : tie.Need-refused-requires
+refused-requires c κs = search needs
+
+returns : tie.Need-returns
+unfolding gives refuses
+returns c = finds-none _ _ _ (search (was-not)) (c .refused .ensures .0) (c .refused .ensures .1)
+
+load-part-requires : tie.Need-load-part-requires
+load-part-requires c κs =
+    let r : ready (c .before .before .before .args .s .now) ≡ true = search (was-ready) in
+    let l = ready-long _ r in omega arith
+
+clocked-requires : tie.Need-clocked-requires
+clocked-requires c κs = search needs
+
+clock-byte-requires : tie.Need-clock-byte-requires
+clock-byte-requires c κs = search needs
+
+returns-2 : tie.Need-returns-2
+unfolding gives refuses
+returns-2 c = finds _ _ _ _ (search (was-ready)) (clock-next _ _ _ (c .before .before .load-part .ensures) (c .before .clocked .ensures)) (clock-gives _ _ (c .before .before .load-part .ensures) _ (c .clock-byte .ensures))
+
+pub clock-turn-spec : {M : Type 1} → statement M
+clock-turn-spec =
+    tie.close
+    (tie.spec
+    ready-requires
+    refused-requires
+    returns
+    load-part-requires
+    clocked-requires
+    clock-byte-requires
+    returns-2)

@@ -1,0 +1,49 @@
+// What is kept of a transaction, at a place of a buffer.
+ghost use mathlib.Core.Path.{_≡_};
+ghost use Prim.Native.Nat.{_+_, _≤_};
+ghost use lib.ListN.{length};
+ghost use Rattle.buffer.specs.Layout.{partForm};
+use super::leaf::put_byte;
+use super::leaf::put_bytes;
+use super::lists::eight_bytes;
+use super::lists::eleven_bytes;
+use bus::Part;
+
+pub fn load_part(s: &[u8], o: usize) -> Part
+    requires { ⌜ o + 22 ≤ length (now s) ⌝ }
+    ensures { λ r. ⌜ r ≡ partForm .get (now (s .entry)) o ⌝ }
+{
+    let phase = s[o];
+    let o1 = o + 1;
+    let count = s[o1];
+    let o2 = o1 + 1;
+    let bytes = eleven_bytes(s, o2);
+    let o3 = o2 + 11;
+    let clocked = s[o3];
+    let o4 = o3 + 1;
+    let reply = eight_bytes(s, o4);
+    Part {
+        phase: phase,
+        count: count,
+        bytes: bytes,
+        clocked: clocked,
+        reply: reply,
+    }
+}
+
+pub fn save_part(s: &mut [u8], o: usize, p: Part)
+    requires { ⌜ o + 22 ≤ length (now s) ⌝ }
+    ensures { λ _. ⌜ now (s .exit) ≡ partForm .store (now (s .entry)) o p ⌝ }
+{
+    let bytes = p.bytes;
+    let reply = p.reply;
+    put_byte(s, o, p.phase);
+    let o1 = o + 1;
+    put_byte(s, o1, p.count);
+    let o2 = o1 + 1;
+    put_bytes(s, o2, &bytes);
+    let o3 = o2 + 11;
+    put_byte(s, o3, p.clocked);
+    let o4 = o3 + 1;
+    put_bytes(s, o4, &reply);
+}

@@ -1,0 +1,3 @@
+pub mod Defaults
+pub mod Nacks
+pub mod Orders

@@ -1,0 +1,4 @@
+pub mod Part
+pub mod Automaton
+pub mod Ack
+pub mod Orders

@@ -1,0 +1,6 @@
+pub mod Prefix
+pub mod Sent
+pub mod Parts
+pub mod Fold
+pub mod Claims
+pub mod Stopping

@@ -1,0 +1,116 @@
+-- Runs of the streaming device.
+-- Assumes nothing.
+use Prim.Native.Nat.{ℕ}
+use mathlib.Core.Path.{_≡_, refl, sym, ap, ap₂, _∙_}
+use mathlib.Core.Bool.{Bool, true, false, cond, _&&_, and-eq-true-iff}
+use mathlib.Core.List.{List, [], _∷_, _++_}
+use lib.Dec.{eqb}
+use Rattle.laws.proofs.Branches.{either}
+use Rattle.bus.specs.declared.Part.{Part}
+use Rattle.bus.specs.Part.{partValid, heard, idle}
+use Rattle.bus.specs.Automaton.{Event, start, byte, again, clock, stop, partAfter}
+use Rattle.bus.specs.Orders.{writeOrder, readOrder}
+use Rattle.device.specs.declared.Device.{Device}
+use Rattle.device.specs.declared.Done.{Done}
+use Rattle.device.specs.Device.{powerOn, deviceValid}
+use Rattle.device.specs.Step.{Call, write, read, step}
+use Rattle.history.specs.Run.{next, run}
+use Rattle.history.specs.Valid.{ReachedValid}
+use Rattle.history.proofs.Valid.{valid-after, reached-valid}
+use Rattle.stream.specs.Stream.{State, state, stateValid, partNext, ended, stopped, called, Turn, on, call, deviceNext, after, feed, events}
+use Rattle.stream.specs.Claims.{Written, Read}
+use Rattle.stream.proofs.Fold.{whole, stays, feed-append, feed-kept}
+use Rattle.stream.proofs.Claims.{written, read-claim, events-append}
+use Rattle.traffic.specs.Runs.{NoFifteen, Item, aWrite, aRead, aCall, turnsOf, callsOf, AsRun}
+
+-- ---- no 15
+
+ended-valid : (d : Device) (p : Part) → deviceValid d ≡ true → deviceValid (ended d p .device) ≡ true
+unfolding ended
+ended-valid d p v =
+    either (eqb (p .phase) 1)
+    (λ y. rw y (valid-after d (write (heard p)) v))
+    (λ n. rw n
+    (either (eqb (p .phase) 3)
+    (λ y. rw y (valid-after d (read (heard p) (p .clocked)) v))
+    (λ m. rw m v)))
+
+device-stays : (s : State) (t : Turn) → stateValid s ≡ true → deviceValid (after s t .device) ≡ true
+unfolding after deviceNext stopped called stateValid
+device-stays s (on start) v = and-eq-true-iff (partValid (s .part)) (deviceValid (s .device)) .0 v .1
+device-stays s (on (byte b)) v = and-eq-true-iff (partValid (s .part)) (deviceValid (s .device)) .0 v .1
+device-stays s (on again) v = and-eq-true-iff (partValid (s .part)) (deviceValid (s .device)) .0 v .1
+device-stays s (on clock) v = and-eq-true-iff (partValid (s .part)) (deviceValid (s .device)) .0 v .1
+device-stays s (on stop) v =
+    rw v (ended-valid (s .device) (s .part) (and-eq-true-iff (partValid (s .part)) (deviceValid (s .device)) .0 v .1))
+device-stays s (call c) v =
+    let both = and-eq-true-iff (partValid (s .part)) (deviceValid (s .device)) .0 v in
+    rw (both .0) (valid-after (s .device) c (both .1))
+
+part-of : (s : State) → stateValid s ≡ true → partValid (s .part) ≡ true
+unfolding stateValid
+part-of s v = and-eq-true-iff (partValid (s .part)) (deviceValid (s .device)) .0 v .0
+
+feed-valid : (ts : List Turn) (s : State) → stateValid s ≡ true → stateValid (feed s ts) ≡ true
+unfolding feed
+feed-valid [] s v = v
+feed-valid (t ∷ ts) s v = feed-valid ts (after s t) (whole (after s t) (stays s t (part-of s v)) (device-stays s t v))
+
+idle-valid : partValid idle ≡ true
+unfolding partValid idle
+idle-valid = refl
+
+pub no-fifteen : NoFifteen
+unfolding NoFifteen ReachedValid run
+no-fifteen n ts h = feed-valid ts (state idle (powerOn n)) (whole (state idle (powerOn n)) idle-valid (reached-valid n [] h))
+
+-- ---- runs of transactions
+
+-- the state after STOP, of which the part is valid and the device what STOP leaves
+stop-device : (s : State) → after s (on stop) .device ≡ stopped s .device
+unfolding after deviceNext
+stop-device s = refl
+
+module _ (s : State) (v : partValid (s .part) ≡ true) where
+  after-stop : (es : List Event) → feed s (events (start ∷ (es ++ (stop ∷ [])))) ≡ after (feed s (events (start ∷ es))) (on stop)
+  unfolding feed
+  after-stop es =
+      ap (feed (after s (on start))) (events-append es (stop ∷ [])) ∙ feed-append (after s (on start)) (events es) (events (stop ∷ []))
+
+  write-device : (bs : List ℕ) → feed s (events (start ∷ (writeOrder bs ++ (stop ∷ [])))) .device ≡ next (s .device) (write bs)
+  unfolding Written
+  write-device bs =
+      ap (λ (t : State). t .device) (after-stop (writeOrder bs))
+      ∙ stop-device (feed s (events (start ∷ writeOrder bs)))
+      ∙ ap (λ (r : Done). r .device) (written s bs v)
+
+  read-device : (bs : List ℕ) (b n : ℕ) → feed s (events (start ∷ (readOrder bs b n ++ (stop ∷ [])))) .device ≡ next (s .device) (read (bs ++ b ∷ []) n)
+  unfolding Read
+  read-device bs b n =
+      ap (λ (t : State). t .device) (after-stop (readOrder bs b n))
+      ∙ stop-device (feed s (events (start ∷ readOrder bs b n)))
+      ∙ ap (λ (r : Done). r .device) (read-claim s bs b n v .0)
+
+  call-device : (c : Call) → after s (call c) .device ≡ next (s .device) c
+  unfolding after called
+  call-device c = rw v
+
+items : (l : List Item) (s : State) → partValid (s .part) ≡ true → feed s (turnsOf l) .device ≡ run (s .device) (callsOf l)
+unfolding feed run
+items [] s v = refl
+items (aWrite bs ∷ l) s v =
+    let ts = events (start ∷ (writeOrder bs ++ (stop ∷ []))) in
+    ap (λ (t : State). t .device) (feed-append s ts (turnsOf l))
+    ∙ items l (feed s ts) (feed-kept ts s v)
+    ∙ ap (λ (d : Device). run d (callsOf l)) (write-device s v bs)
+items (aRead bs b n ∷ l) s v =
+    let ts = events (start ∷ (readOrder bs b n ++ (stop ∷ []))) in
+    ap (λ (t : State). t .device) (feed-append s ts (turnsOf l))
+    ∙ items l (feed s ts) (feed-kept ts s v)
+    ∙ ap (λ (d : Device). run d (callsOf l)) (read-device s v bs b n)
+items (aCall c ∷ l) s v =
+    items l (after s (call c)) (stays s (call c) v) ∙ ap (λ (d : Device). run d (callsOf l)) (call-device s v c)
+
+pub as-run : AsRun
+unfolding AsRun
+as-run d l = items l (state idle d) idle-valid
