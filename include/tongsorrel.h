@@ -263,6 +263,56 @@ tongsorrel_outcome tongsorrel_lent_alert_response(tongsorrel_unpaged unpaged, co
 /* Whether the firmware keeps the supply of a page switched on; a page beyond the records is off. */
 bool tongsorrel_lent_supplies(const tongsorrel_page *pages, size_t number, uint8_t page);
 
+/* ---- the streaming device: the bus event by event */
+
+/* For a bus block that hands over START, bytes, repeated START, clocked bytes and STOP one by one (section 17). The state is a buffer of
+ * TONGSORREL_STREAM_SIZE bytes of the firmware's own, which each function gets and changes where it stands: the eight-page device, and what is
+ * kept of the transaction under way. Any bytes may stand in it, at any address; 17.12 has the layout. A buffer of another length, and one that holds a
+ * state which is not valid, is left as it is: answer 15, NACK, FFh. There are no whole transactions.
+ *
+ * The order of steps of a write and of a read, as the bus brings them (17.10 has the picture):
+ *   tongsorrel_stream_start, tongsorrel_stream_byte for each byte, tongsorrel_stream_stop
+ *   tongsorrel_stream_start, tongsorrel_stream_byte for each byte, tongsorrel_stream_repeated_start, tongsorrel_stream_byte for the second address
+ *       byte, tongsorrel_stream_clock for each byte that the host clocks, tongsorrel_stream_stop
+ * Any other order is taken too: it is a breach, and changes nothing (17.8). tongsorrel_stream_measure, _sample, _tick and _alert_response may come
+ * between any two of them (17.7). */
+
+enum { TONGSORREL_STREAM_SIZE = 466 };
+
+enum {
+    TONGSORREL_NACK = 0,
+    TONGSORREL_ACK = 1,
+};
+
+/* Power-on: sets every byte of the buffer, whatever it held. Answers 0, 15. */
+uint8_t tongsorrel_stream_power_on(uint8_t *state, size_t length);
+
+/* START begins a transaction and drops one that had no STOP (17.9). Answers 0, 15. */
+uint8_t tongsorrel_stream_start(uint8_t *state, size_t length);
+
+/* A byte that the host wrote, address bytes among them: TONGSORREL_ACK or TONGSORREL_NACK (17.4). */
+uint8_t tongsorrel_stream_byte(uint8_t *state, size_t length, uint8_t byte);
+
+/* A repeated START. Answers 0, 15. */
+uint8_t tongsorrel_stream_repeated_start(uint8_t *state, size_t length);
+
+/* A byte that the host clocks: the byte to send, FFh where there is none (17.5). */
+uint8_t tongsorrel_stream_clock(uint8_t *state, size_t length);
+
+/* STOP: the answer that the whole transaction gets, and its effect (17.6). Answers 0 to 3, 5 to 11, 15. */
+uint8_t tongsorrel_stream_stop(uint8_t *state, size_t length);
+
+/* As tongsorrel_measure, tongsorrel_sample, tongsorrel_tick and tongsorrel_alert_response, on the device in the buffer. */
+uint8_t tongsorrel_stream_measure(uint8_t *state, size_t length, uint8_t page, uint8_t quantity, uint16_t word);
+uint8_t tongsorrel_stream_sample(uint8_t *state, size_t length, uint16_t sample);
+uint8_t tongsorrel_stream_tick(uint8_t *state, size_t length);
+uint8_t tongsorrel_stream_alert_response(uint8_t *state, size_t length, uint8_t *reply, size_t n);
+
+/* Whether the firmware keeps the supply of a page switched on, and whether it holds SMBALERT# asserted: 1 or 0. A page over 7 is off, and so is
+ * everything in a buffer of another length. Both may change at STOP and after each of the four calls above. */
+uint8_t tongsorrel_stream_supplies(const uint8_t *state, size_t length, uint8_t page);
+uint8_t tongsorrel_stream_alert(const uint8_t *state, size_t length);
+
 /* ---- the host's totalizer */
 
 /* Totals of energy and samples since the first accepted reply. last: the account in the last accepted reply (10.1). */

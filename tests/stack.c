@@ -95,6 +95,51 @@ static tongsorrel_outcome no_lent_tick(tongsorrel_unpaged u, tongsorrel_page *p,
     return (tongsorrel_outcome){u, 0};
 }
 
+/* The streaming device: its functions by the arguments they take. */
+static uint8_t state[TONGSORREL_STREAM_SIZE];
+
+static uint8_t no_stream(uint8_t *s, size_t l) {
+    (void)s, (void)l;
+    NOTE();
+    return 0;
+}
+
+static uint8_t no_stream_byte(uint8_t *s, size_t l, uint8_t b) {
+    (void)s, (void)l, (void)b;
+    NOTE();
+    return 0;
+}
+
+static uint8_t no_stream_measure(uint8_t *s, size_t l, uint8_t p, uint8_t q, uint16_t w) {
+    (void)s, (void)l, (void)p, (void)q, (void)w;
+    NOTE();
+    return 0;
+}
+
+static uint8_t no_stream_sample(uint8_t *s, size_t l, uint16_t w) {
+    (void)s, (void)l, (void)w;
+    NOTE();
+    return 0;
+}
+
+static uint8_t no_stream_alert_response(uint8_t *s, size_t l, uint8_t *r, size_t k) {
+    (void)s, (void)l, (void)r, (void)k;
+    NOTE();
+    return 0;
+}
+
+static uint8_t no_stream_supplies(const uint8_t *s, size_t l, uint8_t p) {
+    (void)s, (void)l, (void)p;
+    NOTE();
+    return 0;
+}
+
+static uint8_t no_stream_alert(const uint8_t *s, size_t l) {
+    (void)s, (void)l;
+    NOTE();
+    return 0;
+}
+
 static bool no_supplies(tongsorrel_device d, uint8_t p) {
     (void)d, (void)p;
     NOTE();
@@ -130,6 +175,22 @@ static tongsorrel_outcome (*volatile lent_measure_call)(tongsorrel_unpaged, tong
 
 static tongsorrel_outcome (*volatile lent_tick_call)(tongsorrel_unpaged, tongsorrel_page *, size_t);
 
+static uint8_t (*volatile stream_call)(uint8_t *, size_t);
+static uint8_t (*volatile stream_byte_call)(uint8_t *, size_t, uint8_t);
+static uint8_t (*volatile stream_measure_call)(uint8_t *, size_t, uint8_t, uint8_t, uint16_t);
+static uint8_t (*volatile stream_sample_call)(uint8_t *, size_t, uint16_t);
+static uint8_t (*volatile stream_alert_response_call)(uint8_t *, size_t, uint8_t *, size_t);
+static uint8_t (*volatile stream_supplies_call)(const uint8_t *, size_t, uint8_t);
+static uint8_t (*volatile stream_alert_call)(const uint8_t *, size_t);
+static volatile uint8_t given;
+
+static void run_stream(void) { given = stream_call(state, sizeof state); }
+static void run_stream_byte(void) { given = stream_byte_call(state, sizeof state, number); }
+static void run_stream_measure(void) { given = stream_measure_call(state, sizeof state, number, second, word); }
+static void run_stream_sample(void) { given = stream_sample_call(state, sizeof state, word); }
+static void run_stream_alert_response(void) { given = stream_alert_response_call(state, sizeof state, reply, n); }
+static void run_stream_supplies(void) { given = stream_supplies_call(state, sizeof state, number); }
+static void run_stream_alert(void) { given = stream_alert_call(state, sizeof state); }
 static void run_lent_tick(void) { outcome = lent_tick_call(device.unpaged, pages, TONGSORREL_MOST_PAGES); }
 static void run_lent_power_on(void) { outcome = lent_power_on_call(pages, TONGSORREL_MOST_PAGES); }
 static void run_lent_write(void) { outcome = lent_write_call(device.unpaged, pages, TONGSORREL_MOST_PAGES, bytes, length); }
@@ -173,10 +234,23 @@ static void painted(void (*run)(void), unsigned char paint) {
         painted(run, 0x5A);                  \
     } while (0)
 
+/* The same for a call that changes the buffer: both runs from the same bytes, and what the last one left stays. */
+#define STREAM_DEPTH(call, stand_in, function, run) \
+    do {                                            \
+        uint8_t before[sizeof state];               \
+        memcpy(before, state, sizeof state);        \
+        call = stand_in;                            \
+        on_stack(run);                              \
+        call = function;                            \
+        painted(run, 0xA5);                         \
+        memcpy(state, before, sizeof state);        \
+        painted(run, 0x5A);                         \
+    } while (0)
+
 static size_t most;
 
 static void report(const char *name) {
-    printf("    %-44s %zu\n", name, deepest);
+    printf("    %-50s %zu\n", name, deepest);
     if (deepest > most) most = deepest;
     deepest = 0;
 }
@@ -204,6 +278,103 @@ static void transaction(uint8_t code) {
 static void lend(const tongsorrel_device *d) {
     device = *d;
     for (size_t i = 0; i < TONGSORREL_MOST_PAGES; i++) pages[i] = d->pages[i % TONGSORREL_PAGES];
+}
+
+/* ---- the streaming device */
+
+/* The depths of its functions, by what they do. */
+enum { POWER_ON, STEP, BYTE, STOP, CALL, ALERT, GROUPS };
+static const char *const names[GROUPS] = {
+    "tongsorrel_stream_power_on",
+    "tongsorrel_stream_start, repeated_start, clock",
+    "tongsorrel_stream_byte",
+    "tongsorrel_stream_stop",
+    "tongsorrel_stream_measure, sample, tick",
+    "tongsorrel_stream_alert_response, supplies, alert",
+};
+static size_t depths[GROUPS];
+
+static void keep(int group) {
+    if (deepest > depths[group]) depths[group] = deepest;
+    deepest = 0;
+}
+
+static void stream_event(uint8_t (*function)(uint8_t *, size_t), int group) {
+    STREAM_DEPTH(stream_call, no_stream, function, run_stream);
+    keep(group);
+}
+
+static void stream_byte(uint8_t byte) {
+    number = byte;
+    STREAM_DEPTH(stream_byte_call, no_stream_byte, tongsorrel_stream_byte, run_stream_byte);
+    keep(BYTE);
+}
+
+/* A write and a read of a code, event by event: length bytes of the one, n clocked of the other. */
+static void stream_transactions(uint8_t code) {
+    transaction(code);
+    stream_event(tongsorrel_stream_start, STEP);
+    for (size_t i = 0; i < length; i++) stream_byte(bytes[i]);
+    stream_event(tongsorrel_stream_stop, STOP);
+    stream_event(tongsorrel_stream_start, STEP);
+    stream_byte(TONGSORREL_ADDRESS_WRITE);
+    stream_byte(code);
+    stream_event(tongsorrel_stream_repeated_start, STEP);
+    stream_byte(TONGSORREL_ADDRESS_READ);
+    for (size_t i = 0; i < n; i++) stream_event(tongsorrel_stream_clock, STEP);
+    stream_event(tongsorrel_stream_stop, STOP);
+}
+
+/* The calls beside the bus, and the questions. */
+static void stream_calls(void) {
+    word = 0x7BFF;
+    for (number = 0; number < 9; number++)
+        for (second = 0; second < 5; second++)
+            STREAM_DEPTH(stream_measure_call, no_stream_measure, tongsorrel_stream_measure, run_stream_measure);
+    for (word = 32767; word <= 32768; word++) STREAM_DEPTH(stream_sample_call, no_stream_sample, tongsorrel_stream_sample, run_stream_sample);
+    stream_event(tongsorrel_stream_tick, CALL);
+    for (number = 0; number < 9; number++)
+        STREAM_DEPTH(stream_supplies_call, no_stream_supplies, tongsorrel_stream_supplies, run_stream_supplies);
+    STREAM_DEPTH(stream_alert_call, no_stream_alert, tongsorrel_stream_alert, run_stream_alert);
+    for (n = 0; n < 3; n++)
+        STREAM_DEPTH(stream_alert_response_call, no_stream_alert_response, tongsorrel_stream_alert_response, run_stream_alert_response);
+    keep(ALERT);
+}
+
+static void stream_write(uint8_t code, uint8_t data) {
+    const uint8_t all[] = {TONGSORREL_ADDRESS_WRITE, code, data};
+    tongsorrel_stream_start(state, sizeof state);
+    for (size_t i = 0; i < sizeof all; i++) tongsorrel_stream_byte(state, sizeof state, all[i]);
+    tongsorrel_stream_stop(state, sizeof state);
+}
+
+/* From power-on; or with PAGE FFh, every page on and beyond its limits; or with a phase that gets 15. */
+static void stream_state(int kind) {
+    tongsorrel_stream_power_on(state, sizeof state);
+    if (kind == 0) return;
+    stream_write(TONGSORREL_CODE_PAGE, 0xFF);
+    stream_write(TONGSORREL_CODE_OPERATION, 0x80);
+    for (uint8_t p = 0; p < TONGSORREL_PAGES; p++)
+        for (uint8_t q = 0; q < TONGSORREL_QUANTITIES; q++) tongsorrel_stream_measure(state, sizeof state, p, q, 0x7BFF);
+    if (kind == 2) state[0] = 5;
+}
+
+static void streaming(void) {
+    for (int kind = 0; kind < 3; kind++) {
+        for (int code = 0; code < 256; code++)
+            for (length = 0; length < 7; length++) {
+                n = length + 3;
+                stream_state(kind);
+                stream_transactions((uint8_t)code);
+            }
+        stream_state(kind);
+        stream_calls();
+    }
+    stream_event(tongsorrel_stream_power_on, POWER_ON);
+    for (int group = 0; group < GROUPS; group++) {
+        deepest = depths[group];
+        report(names[group]);
+    }
 }
 
 int main(void) {
@@ -262,6 +433,7 @@ int main(void) {
         for (n = 0; n < 3; n++) DEPTH(alert_call, no_alert, tongsorrel_alert_response, run_alert);
     }
     report("tongsorrel_sample, tick, lent_tick, alert");
+    streaming();
     memset(bytes, 0, sizeof bytes);
     bytes[0] = 6;
     const uint8_t header[] = {TONGSORREL_ADDRESS_WRITE, TONGSORREL_CODE_READ_EIN, TONGSORREL_ADDRESS_READ};

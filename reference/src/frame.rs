@@ -132,7 +132,7 @@ pub fn answer(shelf: &mut Shelf, line: &[u8], output: &mut impl Write) -> io::Re
 
 /// The bytes of a line of lower-case hexadecimal; none when it is empty, too
 /// long, odd in digits or has any other character.
-fn decode<'a>(line: &[u8], bytes: &'a mut [u8; LINE / 2]) -> Option<&'a [u8]> {
+pub fn decode<'a>(line: &[u8], bytes: &'a mut [u8; LINE / 2]) -> Option<&'a [u8]> {
     if line.is_empty() || line.len() > LINE || line.len() & 1 == 1 {
         return None;
     }

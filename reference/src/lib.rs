@@ -13,5 +13,6 @@ pub mod linear11;
 pub mod machine;
 pub mod page;
 pub mod pec;
+pub mod random;
 pub mod stream;
 pub mod totalizer;

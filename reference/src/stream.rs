@@ -16,7 +16,7 @@ const REPLY: usize = 8;
 
 /// Where a transaction stands.
 #[derive(Clone, Copy, Debug, PartialEq, Eq)]
-enum Phase {
+pub enum Phase {
     /// No START since the last STOP.
     Idle,
     /// After START: the address byte, the code and data.
@@ -29,26 +29,44 @@ enum Phase {
     Broken,
 }
 
+/// The transaction under way.
+#[derive(Clone, Debug, PartialEq, Eq)]
+pub struct Transaction {
+    pub phase: Phase,
+    /// The bytes written since START, the second address byte among them.
+    pub bytes: Vec<u8>,
+    /// Whether a byte so far was a wrong address byte or an absent code.
+    pub foreign: bool,
+}
+
+impl Transaction {
+    /// Forgets all that came before.
+    fn begin(&mut self, phase: Phase) {
+        self.phase = phase;
+        self.bytes.clear();
+        self.foreign = false;
+    }
+}
+
 /// The device and the transaction under way. The calls are those of the bus, beside
 /// sample, measurement, tick and alert response; no transaction comes whole.
 #[derive(Clone, Debug, PartialEq, Eq)]
 pub struct Stream {
     pub device: Device,
-    phase: Phase,
-    /// The bytes written since START, the second address byte among them.
-    bytes: Vec<u8>,
-    /// Whether a byte so far was a wrong address byte or an absent code.
-    foreign: bool,
+    pub transaction: Transaction,
 }
 
 impl Stream {
     /// No transaction under way on a device in any state.
     pub fn new(device: Device) -> Stream {
-        Stream {
-            device,
+        let transaction = Transaction {
             phase: Phase::Idle,
             bytes: Vec::new(),
             foreign: false,
+        };
+        Stream {
+            device,
+            transaction,
         }
     }
 
@@ -61,10 +79,7 @@ impl Stream {
         if !self.device.valid() {
             return 15;
         }
-        *self = Stream {
-            phase: Phase::Written,
-            ..Stream::new(self.device)
-        };
+        self.transaction.begin(Phase::Written);
         0
     }
 
@@ -73,24 +88,24 @@ impl Stream {
         if !self.device.valid() {
             return false;
         }
-        let right = match self.phase {
+        let right = match self.transaction.phase {
             Phase::Written => self.expected(byte),
             Phase::Turned => Some(byte == READ_ADDRESS),
             _ => {
-                self.phase = Phase::Broken;
+                self.transaction.phase = Phase::Broken;
                 return false;
             }
         };
-        self.bytes.push(byte);
-        if self.phase == Phase::Turned {
+        self.transaction.bytes.push(byte);
+        if self.transaction.phase == Phase::Turned {
             self.begin_reply();
         }
         match right {
             // A byte too many, which spoils nothing after it.
             None => false,
             Some(right) => {
-                self.foreign |= !right;
-                !self.foreign
+                self.transaction.foreign |= !right;
+                !self.transaction.foreign
             }
         }
     }
@@ -100,7 +115,7 @@ impl Stream {
         if !self.device.valid() {
             return 15;
         }
-        self.phase = match self.phase {
+        self.transaction.phase = match self.transaction.phase {
             Phase::Written => Phase::Turned,
             _ => Phase::Broken,
         };
@@ -112,7 +127,7 @@ impl Stream {
         if !self.device.valid() {
             return 0xFF;
         }
-        match &mut self.phase {
+        match &mut self.transaction.phase {
             Phase::Clocked { reply, count } => {
                 let byte = reply.get(*count).copied().unwrap_or(0xFF);
                 *count += 1;
@@ -130,12 +145,14 @@ impl Stream {
         if !self.device.valid() {
             return 15;
         }
-        let answer = match self.phase {
-            Phase::Written => self.device.write(&self.bytes),
-            Phase::Clocked { count, .. } => self.device.read(&self.bytes, &mut vec![0; count]),
+        let answer = match self.transaction.phase {
+            Phase::Written => self.device.write(&self.transaction.bytes),
+            Phase::Clocked { count, .. } => self
+                .device
+                .read(&self.transaction.bytes, &mut vec![0; count]),
             Phase::Idle | Phase::Turned | Phase::Broken => 2,
         };
-        *self = Stream::new(self.device);
+        self.transaction.begin(Phase::Idle);
         answer
     }
 
@@ -163,7 +180,7 @@ impl Stream {
     /// data or PEC of that code in the table's count, whichever way the code goes; none
     /// for one beyond that.
     fn expected(&self, byte: u8) -> Option<bool> {
-        match self.bytes[..] {
+        match self.transaction.bytes[..] {
             [] => Some(byte == WRITE_ADDRESS),
             [_] => Some(command::lookup(byte).is_some()),
             [_, code, ref data @ ..] => match command::lookup(code) {
@@ -177,7 +194,7 @@ impl Stream {
     /// number of bytes is the beginning of this one, continued with FFh.
     fn begin_reply(&mut self) {
         let (mut device, mut reply) = (self.device, [0xFF; REPLY]);
-        device.read(&self.bytes, &mut reply);
-        self.phase = Phase::Clocked { reply, count: 0 };
+        device.read(&self.transaction.bytes, &mut reply);
+        self.transaction.phase = Phase::Clocked { reply, count: 0 };
     }
 }

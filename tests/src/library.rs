@@ -139,6 +139,29 @@ mod archive {
             n: usize,
         ) -> Outcome;
         pub fn tongsorrel_lent_supplies(pages: *const Page, number: usize, page: u8) -> bool;
+        pub fn tongsorrel_stream_power_on(state: *mut u8, length: usize) -> u8;
+        pub fn tongsorrel_stream_start(state: *mut u8, length: usize) -> u8;
+        pub fn tongsorrel_stream_byte(state: *mut u8, length: usize, byte: u8) -> u8;
+        pub fn tongsorrel_stream_repeated_start(state: *mut u8, length: usize) -> u8;
+        pub fn tongsorrel_stream_clock(state: *mut u8, length: usize) -> u8;
+        pub fn tongsorrel_stream_stop(state: *mut u8, length: usize) -> u8;
+        pub fn tongsorrel_stream_measure(
+            state: *mut u8,
+            length: usize,
+            page: u8,
+            quantity: u8,
+            word: u16,
+        ) -> u8;
+        pub fn tongsorrel_stream_sample(state: *mut u8, length: usize, sample: u16) -> u8;
+        pub fn tongsorrel_stream_tick(state: *mut u8, length: usize) -> u8;
+        pub fn tongsorrel_stream_alert_response(
+            state: *mut u8,
+            length: usize,
+            reply: *mut u8,
+            n: usize,
+        ) -> u8;
+        pub fn tongsorrel_stream_supplies(state: *const u8, length: usize, page: u8) -> u8;
+        pub fn tongsorrel_stream_alert(state: *const u8, length: usize) -> u8;
         pub fn tongsorrel_totalizer_fresh() -> Totalizer;
         pub fn tongsorrel_totalizer_take(t: Totalizer, reply: *const u8, length: usize) -> Taken;
     }
@@ -258,6 +281,73 @@ pub mod lent {
 
     pub fn supplies(pages: &[Page], page: u8) -> bool {
         unsafe { archive::tongsorrel_lent_supplies(pages.as_ptr(), pages.len(), page) }
+    }
+}
+
+/// The streaming device, whose state is a buffer. What comes back is the number itself, so that none but the right one passes for it.
+pub mod stream {
+    use super::archive;
+
+    /// Bytes of the buffer.
+    pub const SIZE: usize = 466;
+    pub const NACK: u8 = 0;
+    pub const ACK: u8 = 1;
+
+    pub fn power_on(state: &mut [u8]) -> u8 {
+        unsafe { archive::tongsorrel_stream_power_on(state.as_mut_ptr(), state.len()) }
+    }
+
+    pub fn start(state: &mut [u8]) -> u8 {
+        unsafe { archive::tongsorrel_stream_start(state.as_mut_ptr(), state.len()) }
+    }
+
+    pub fn byte(state: &mut [u8], byte: u8) -> u8 {
+        unsafe { archive::tongsorrel_stream_byte(state.as_mut_ptr(), state.len(), byte) }
+    }
+
+    pub fn repeated_start(state: &mut [u8]) -> u8 {
+        unsafe { archive::tongsorrel_stream_repeated_start(state.as_mut_ptr(), state.len()) }
+    }
+
+    pub fn clock(state: &mut [u8]) -> u8 {
+        unsafe { archive::tongsorrel_stream_clock(state.as_mut_ptr(), state.len()) }
+    }
+
+    pub fn stop(state: &mut [u8]) -> u8 {
+        unsafe { archive::tongsorrel_stream_stop(state.as_mut_ptr(), state.len()) }
+    }
+
+    pub fn measure(state: &mut [u8], page: u8, quantity: u8, word: u16) -> u8 {
+        let (bytes, length) = (state.as_mut_ptr(), state.len());
+        unsafe { archive::tongsorrel_stream_measure(bytes, length, page, quantity, word) }
+    }
+
+    pub fn sample(state: &mut [u8], sample: u16) -> u8 {
+        unsafe { archive::tongsorrel_stream_sample(state.as_mut_ptr(), state.len(), sample) }
+    }
+
+    pub fn tick(state: &mut [u8]) -> u8 {
+        unsafe { archive::tongsorrel_stream_tick(state.as_mut_ptr(), state.len()) }
+    }
+
+    pub fn alert_response(state: &mut [u8], reply: &mut [u8]) -> u8 {
+        let (bytes, length) = (state.as_mut_ptr(), state.len());
+        unsafe {
+            archive::tongsorrel_stream_alert_response(
+                bytes,
+                length,
+                reply.as_mut_ptr(),
+                reply.len(),
+            )
+        }
+    }
+
+    pub fn supplies(state: &[u8], page: u8) -> u8 {
+        unsafe { archive::tongsorrel_stream_supplies(state.as_ptr(), state.len(), page) }
+    }
+
+    pub fn alert(state: &[u8]) -> u8 {
+        unsafe { archive::tongsorrel_stream_alert(state.as_ptr(), state.len()) }
     }
 }
 

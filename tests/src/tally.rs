@@ -4,35 +4,60 @@ use crate::calls::{Call, KINDS};
 use crate::library::{Device, Page, Unpaged};
 use std::collections::BTreeMap;
 
+/// Which numbers each kind of event gave, and how often.
+#[derive(Default)]
+pub struct Given(BTreeMap<(&'static str, u8), usize>);
+
+impl Given {
+    pub fn note(&mut self, kind: &'static str, number: u8) {
+        *self.0.entry((kind, number)).or_default() += 1;
+    }
+
+    fn of_kind<'a>(&'a self, kind: &'a str) -> impl Iterator<Item = (u8, usize)> + 'a {
+        let all = self.0.iter().filter(move |(key, _)| key.0 == kind);
+        all.map(|(key, &count)| (key.1, count))
+    }
+
+    /// Fails unless this kind gave exactly these numbers.
+    pub fn require(&self, kind: &str, wanted: &[u8]) {
+        let got: Vec<u8> = self.of_kind(kind).map(|(number, _)| number).collect();
+        assert_eq!(got, wanted, "what {kind} gave");
+    }
+
+    /// How often this kind gave this number.
+    pub fn count(&self, kind: &'static str, number: u8) -> usize {
+        self.0.get(&(kind, number)).copied().unwrap_or(0)
+    }
+
+    /// How often each number was given, in a line.
+    pub fn counts(&self, kind: &str) -> String {
+        let counts: Vec<String> = self
+            .of_kind(kind)
+            .map(|(number, count)| format!("{number}: {count}"))
+            .collect();
+        counts.join(", ")
+    }
+}
+
 /// Which answers each kind of call got, and how often.
 #[derive(Default)]
-pub struct Seen(BTreeMap<(usize, u8), usize>);
+pub struct Seen(Given);
 
 impl Seen {
     pub fn note(&mut self, call: &Call, answer: u8) {
-        *self.0.entry((call.kind(), answer)).or_default() += 1;
+        self.0.note(KINDS[call.kind()], answer);
     }
 
     /// Fails unless each kind got exactly these answers.
     pub fn require(&self, answers: [&[u8]; 6]) {
-        for (kind, wanted) in answers.iter().enumerate() {
-            let got: Vec<u8> = self
-                .0
-                .keys()
-                .filter(|key| key.0 == kind)
-                .map(|key| key.1)
-                .collect();
-            assert_eq!(got, *wanted, "answers of {}", KINDS[kind]);
+        for (kind, wanted) in KINDS.iter().zip(answers) {
+            self.0.require(kind, wanted);
         }
     }
 
     pub fn print(&self) {
-        for (kind, name) in KINDS.iter().enumerate() {
-            let of_kind = self.0.iter().filter(|(key, _)| key.0 == kind);
-            let counts: Vec<String> = of_kind
-                .map(|(key, count)| format!("{}: {count}", key.1))
-                .collect();
-            println!("    {name}: answers {}", counts.join(", "));
+        for kind in KINDS {
+            println!("    {kind}: answers {}", self.0.counts(kind));
         }
     }
 }

@@ -1,5 +1,10 @@
 pub mod Laws
 pub mod Places
-pub mod Pages
-pub mod Turns
-pub mod Claims
+pub mod Shapes
+pub mod EightPages
+pub mod Kept
+pub mod Held
+pub mod StoredPart
+pub mod Stored
+pub mod Calling
+pub mod Ending

@@ -2,17 +2,14 @@
 -- Assumes nothing.
 use Prim.Native.Nat.{ℕ, zero, suc, _+_, _*_, _-_, _<_, _≤_}
 use mathlib.Core.Path.{_≡_, refl, sym, ap, ap₂, _∙_}
-use mathlib.Core.Logic.{_⊎_, inl, inr, ⊎-elim}
-use mathlib.Core.Bool.{Bool, true, false, not}
-use mathlib.Core.List.{List, [], _∷_, _++_, append-assoc}
+use mathlib.Core.Bool.{not}
+use mathlib.Core.List.{List, _∷_, _++_, append-assoc}
 use native.Mathlib.Omega.{arith}
-use native.Mathlib.Nat.{mul-le-mul-right}
+use native.Mathlib.Nat.{mul-le-mul-right, not-suc-le-zero, le-of-suc-le-suc}
 use lib.ListN.{length, getD, set, take, drop, length-append, length-drop, take-append-drop, List·getD-append}
-use lib.Seq.{length-take-le, take-add, drop-drop, getD-append-add, getD-take, getD-drop}
-use lib.Dec.{ltb, eqb}
-use borrow.Author.Tests.{ltb-true, ltb-false}
-use Rattle.laws.proofs.Branches.{either}
-use Rattle.buffer.specs.Form.{Form, octet, word, mark, both, array, via, putAll, getAll}
+use lib.Seq.{length-take-le, take-add, getD-append-add, getD-take, getD-drop}
+use lib.Dec.{eqb}
+use Rattle.buffer.specs.Form.{Form, octet, word, mark, both, array, via, getAll}
 use Rattle.buffer.specs.Layout.{partFields, partTo, partFrom, partForm, longTo, longFrom, long, accountFields, accountTo, accountFrom, accountForm, unpagedFields, unpagedTo, unpagedFrom, unpagedForm, settingFields, valueFields, pageTo, pageFrom, pageForm, deviceTo, deviceFrom, deviceForm}
 use Rattle.buffer.proofs.Laws.{Back}
 
@@ -21,7 +18,7 @@ use Rattle.buffer.proofs.Laws.{Back}
 unfoldable pub Local : {A : Type 0} → Form A → Type 0
 Local f = (s t : List ℕ) (o : ℕ) → ((i : ℕ) → o ≤ i → i < o + f .width → getD s i 0 ≡ getD t i 0) → f .get s o ≡ f .get t o
 
-octet-local : Local octet
+pub octet-local : Local octet
 unfolding Local
 octet-local s t o h = h o (omega arith) (omega arith)
 
@@ -38,7 +35,7 @@ unfolding Local
 both-local {A} {B} f g kf kg s t o h =
     ap₂ (λ (x : A) (y : B). (x, y)) (kf s t o (λ i lo hi. h i lo (omega arith))) (kg s t (o + f .width) (λ i lo hi. h i (omega arith) (omega arith)))
 
-all-local : {A : Type 0} (f : Form A) → Local f → (n : ℕ) → Local (array n f)
+pub all-local : {A : Type 0} (f : Form A) → Local f → (n : ℕ) → Local (array n f)
 unfolding Local
 all-local f k zero s t o h = refl
 all-local {A} f k (suc n) s t o h =
@@ -125,6 +122,10 @@ module _ {A : Type 0} (f : Form A) (k : Back f) (s : List ℕ) (o : ℕ) (x : A)
   after : f .store s o x ≡ before ++ f .put x ++ behind
   after = ap₂ (λ (t : List ℕ) (n : ℕ). f .store t n x) parts (sym at-o) ∙ k .stored x fits before here behind wide
 
+  pub stored-parts : f .store s o x ≡ take o s ++ f .put x ++ drop (o + f .width) s
+  unfolding before behind
+  stored-parts = after
+
   pub read-back : f .get (f .store s o x) o ≡ x
   read-back = ap₂ (λ (t : List ℕ) (n : ℕ). f .get t n) after (sym at-o) ∙ k .back x fits before behind
 
@@ -156,3 +157,49 @@ module _ {A : Type 0} (f : Form A) (k : Back f) (s : List ℕ) (o : ℕ) (x : A)
       ∙ length-append (before ++ f .put x) behind
       ∙ ap (λ (j : ℕ). j + length behind) (length-append before (f .put x))
       ∙ (let d = length-drop (o + f .width) s in omega arith)
+
+-- a value stored over another
+pub store-over : {A : Type 0} (f : Form A) → Back f → (s : List ℕ) (o : ℕ) (x y : A) → f .Fits x → f .Fits y → o + f .width ≤ length s
+    → f .store (f .store s o x) o y ≡ f .store s o y
+store-over f k s o x y fx fy room =
+    ap₂ (λ (t : List ℕ) (n : ℕ). f .store t n y) (stored-parts f k s o x fx room) (sym (length-take-le o s (omega arith)))
+    ∙ k .stored y fy (take o s) (f .put x) (drop (o + f .width) s) (k .sized x fx)
+    ∙ sym (stored-parts f k s o y fy room)
+
+-- ---- an element of an array stored: the array with that element set
+
+module _ {A : Type 0} (f : Form A) (k : Back f) (close : Local f) where
+  pub get-at : (n i : ℕ) (s : List ℕ) (o : ℕ) (d : A) → i < n → getD (getAll f n s o) i d ≡ f .get s (o + i * f .width)
+  get-at zero i s o d h = absurd (not-suc-le-zero h)
+  get-at (suc n) zero s o d h = let e : o + 0 * f .width ≡ o = omega arith in rw e
+  get-at (suc n) (suc i) s o d h =
+      let e : o + suc i * f .width ≡ o + f .width + i * f .width = omega arith in
+      rw e (get-at n i s (o + f .width) d (le-of-suc-le-suc h))
+
+  module _ (x : A) (fits : f .Fits x) where
+    -- the elements behind the place where x is stored
+    pub behind-kept : (n : ℕ) (s : List ℕ) (o : ℕ) → o + f .width ≤ length s → getAll f n (f .store s o x) (o + f .width) ≡ getAll f n s (o + f .width)
+    unfolding Local
+    behind-kept n s o room = all-local f close n (f .store s o x) s (o + f .width) (λ i lo hi. above f k s o x fits room i lo)
+
+    -- and one before it
+    pub before-kept : (s : List ℕ) (o m : ℕ) → o + f .width ≤ m → m + f .width ≤ length s → f .get (f .store s m x) o ≡ f .get s o
+    unfolding Local
+    before-kept s o m apart room = close (f .store s m x) s o (λ i lo hi. below f k s m x fits room i (omega arith))
+
+    pub array-set : (n i : ℕ) (s : List ℕ) (o : ℕ) → i < n → o + n * f .width ≤ length s
+        → getAll f n (f .store s (o + i * f .width) x) o ≡ set (getAll f n s o) i x
+    array-set zero i s o h room = absurd (not-suc-le-zero h)
+    array-set (suc n) zero s o h room =
+        let e : o + 0 * f .width ≡ o = omega arith in
+        let one : o + f .width ≤ length s = omega (arith, mul-le-mul-right {m = 1} {n = suc n} (f .width) (omega arith)) in
+        rw e (ap₂ (λ (y : A) (l : List A). y ∷ l) (read-back f k s o x fits one) (behind-kept n s o one))
+    array-set (suc n) (suc i) s o h room =
+        let m = o + suc i * f .width in
+        let e : m ≡ o + f .width + i * f .width = omega arith in
+        let small = le-of-suc-le-suc h in
+        let apart : o + f .width ≤ m = omega arith in
+        let least : m + f .width ≤ length s = omega (arith, mul-le-mul-right {m = suc (suc i)} {n = suc n} (f .width) h) in
+        let rest : o + f .width + n * f .width ≤ length s = omega arith in
+        ap₂ (λ (y : A) (l : List A). y ∷ l) (before-kept s o m apart least)
+        (ap (λ (j : ℕ). getAll f n (f .store s j x) (o + f .width)) e ∙ array-set n i s (o + f .width) small rest)

@@ -1,23 +1,23 @@
 -- The streaming device over a lent buffer: what each call leaves of the bytes, and what it gives.
 -- Assumes nothing.
-use Prim.Native.Nat.{ℕ}
-use mathlib.Core.Path.{_≡_}
-use mathlib.Core.Bool.{Bool, true, false, cond, _&&_}
-use mathlib.Core.List.{List, [], _++_}
+use Prim.Native.Nat.{ℕ, suc, _+_}
+use mathlib.Core.Bool.{Bool, cond, _&&_}
+use mathlib.Core.List.{List, [], _∷_}
 use lib.ListN.{length}
 use lib.Dec.{eqb}
+use Rattle.page.specs.declared.Page.{Page}
+use Rattle.reads.specs.Reply.{replyOf}
+use Rattle.device.specs.declared.Device.{Device}
+use Rattle.device.specs.Device.{device, powerOn}
+use Rattle.device.specs.Step.{Call, write, answered, clocked, done, step}
+use Rattle.device.specs.Supply.{suppliesAt}
+use Rattle.history.specs.Pages.{touches}
 use Rattle.bus.specs.declared.Part.{Part}
-use Rattle.bus.specs.Part.{idle}
+use Rattle.bus.specs.Part.{writing, heard, idle}
 use Rattle.bus.specs.Automaton.{Event, start, byte, again, clock, stop, clockByte}
 use Rattle.bus.specs.Ack.{ackOf}
-use Rattle.device.specs.declared.Device.{Device}
-use Rattle.device.specs.declared.Done.{Done}
-use Rattle.device.specs.Device.{powerOn}
-use Rattle.device.specs.Step.{Call, step}
-use Rattle.stream.specs.Stream.{State, state, stateValid, partNext, ended, beginAnswer, byteAck, byteSent, stopped, called, Turn, on, call, after}
-use Rattle.buffer.specs.declared.calls.Called.{Called}
-use Rattle.buffer.specs.declared.steps.Turned.{Turned}
-use Rattle.buffer.specs.Layout.{partForm, deviceForm, stateForm, size}
+use Rattle.stream.specs.Stream.{State, state, stateValid, partNext, ended}
+use Rattle.buffer.specs.Layout.{partForm, unpagedForm, pageForm, stateForm, size, pagesFrom}
 
 -- the state that a buffer holds, and its bytes; every byte is some value's
 unfoldable pub decode : List ℕ → State
@@ -38,21 +38,47 @@ deviceOf s = decode s .device
 
 -- ---- what is left of the buffer
 
--- of START, a byte, a repeated START and a clocked byte the first 22 bytes alone change,
-unfoldable pub partFed : List ℕ → Event → List ℕ
-partFed s e = cond (ready s) (partForm .store s 0 (partNext (deviceOf s) (partOf s) e)) s
+-- the pages that pass the test are stored, the first of all of them at o; the bytes of the others stay
+abbrev pub storePages : (ℕ → Bool) → List ℕ → ℕ → List Page → List ℕ
+storePages t s o [] = s
+storePages t s o (p ∷ l) = storePages (λ i. t (suc i)) (cond (t 0) (pageForm .store s o p) s) (o + pageForm .width) l
 
--- at STOP every byte may change,
-unfoldable pub stopFed : List ℕ → List ℕ
-stopFed s = cond (ready s) (deviceForm .store (partForm .store s 0 idle) 22 (ended (deviceOf s) (partOf s) .device)) s
+-- a device over the one that s holds: those of its pages that pass the test, and its unpaged part
+unfoldable pub storeDevice : (ℕ → Bool) → List ℕ → Device → List ℕ
+storeDevice t s d = unpagedForm .store (storePages t s pagesFrom (d .pages)) 22 (d .unpaged)
 
--- and by another call those behind the first 22
+-- an accepted call stores the pages that it touches
+unfoldable pub stores : Device → Call → ℕ → Bool
+stores d c i = eqb (answered d c) 0 && touches d c i
+
 unfoldable pub callFed : List ℕ → Call → List ℕ
-callFed s c = cond (ready s) (deviceForm .store s 22 (step (deviceOf s) c .done .device)) s
+callFed s c = cond (ready s) (storeDevice (stores (deviceOf s) c) s (step (deviceOf s) c .done .device)) s
 
--- power-on of a buffer of the right length, whatever it holds
+-- and at STOP an accepted write those that it touches
+unfoldable pub endStores : Device → Part → ℕ → Bool
+endStores d p i = eqb (p .phase) writing && stores d (write (heard p)) i
+
+-- STOP: nothing is kept of the transaction, and what it did to the device is stored
+unfoldable pub stopFed : List ℕ → List ℕ
+stopFed s = storeDevice (endStores (deviceOf s) (partOf s)) (partForm .store s 0 idle) (ended (deviceOf s) (partOf s) .device)
+
+-- of every other event the first 22 bytes alone change
+unfoldable pub partFed : List ℕ → Event → List ℕ
+partFed s e = partForm .store s 0 (partNext (deviceOf s) (partOf s) e)
+
+unfoldable pub takenOf : List ℕ → Event → List ℕ
+takenOf s start = partFed s start
+takenOf s (byte b) = partFed s (byte b)
+takenOf s again = partFed s again
+takenOf s clock = partFed s clock
+takenOf s stop = stopFed s
+
+unfoldable pub eventFed : List ℕ → Event → List ℕ
+eventFed s e = cond (ready s) (takenOf s e) s
+
+-- power-on sets every byte of a buffer of the right length
 unfoldable pub powerFed : List ℕ → List ℕ
-powerFed s = cond (eqb (length s) size) (deviceForm .store (partForm .store s 0 idle) 22 (powerOn 8)) s
+powerFed s = cond (eqb (length s) size) (encode (state idle (powerOn 8))) s
 
 -- ---- what is given
 
@@ -75,43 +101,20 @@ refuses stop = 15
 unfoldable pub eventGives : List ℕ → Event → ℕ
 eventGives s e = cond (ready s) (gives s e) (refuses e)
 
+-- another call: its answer, and what stands in its reply buffer
 unfoldable pub callGives : List ℕ → Call → ℕ
 callGives s c = cond (ready s) (step (deviceOf s) c .done .answer) 15
 
--- what an event finds out before the buffer is touched
-pub record Finds (s : List ℕ) (e : Event) (t : Turned) : Type 0 where
-  pub when : t .ready ≡ ready s
-  pub what : t .given ≡ eventGives s e
-  pub next : ready s ≡ true → t .part ≡ partNext (deviceOf s) (partOf s) e
+unfoldable pub callSends : List ℕ → Call → List ℕ
+callSends s c = cond (ready s) (step (deviceOf s) c .reply) (replyOf [] (clocked c))
 
-abbrev pub calledBy : Done → Called
-calledBy r = record { ready = true; device = r .device; answer = r .answer }
+unfoldable pub powerGives : List ℕ → ℕ
+powerGives s = cond (eqb (length s) size) 0 15
 
--- what STOP and another call find out before the buffer is touched
-pub record StopFinds (s : List ℕ) (t : Called) : Type 0 where
-  pub when : t .ready ≡ ready s
-  pub what : t .answer ≡ eventGives s stop
-  pub next : ready s ≡ true → t .device ≡ ended (deviceOf s) (partOf s) .device
+-- ---- what the firmware asks between two calls: whether a supply is on, and the alert up; of another length neither is
 
-pub record CallFinds (s : List ℕ) (c : Call) (t : Called) : Type 0 where
-  pub when : t .ready ≡ ready s
-  pub what : t .answer ≡ callGives s c
-  pub next : ready s ≡ true → t .device ≡ step (deviceOf s) c .done .device
+unfoldable pub bufferSupplies : List ℕ → ℕ → ℕ
+bufferSupplies s i = cond (eqb (length s) size && suppliesAt (deviceOf s .pages) i) 1 0
 
--- ---- claims
-
--- decoding what was encoded gives it back; a state of eight pages whose arrays have their lengths fits
-unfoldable pub Decodes : Type 0
-Decodes = (x : State) → stateForm .Fits x → (length (encode x) ≡ size) × (decode (encode x) ≡ x)
-
--- the events over bytes are the events of the state that the bytes hold
-unfoldable pub EventsDecode : Type 0
-EventsDecode =
-    (s : List ℕ) (e : Event) → length s ≡ size → (e ≡ stop → ⊥)
-    → decode (partFed s e) ≡ after (decode s) (on e)
-
--- a buffer of another length, and one whose state gets 15, is left as it is by every event and call
-unfoldable pub LeftAlone : Type 0
-LeftAlone =
-    (s : List ℕ) (e : Event) (c : Call) → ready s ≡ false
-    → (partFed s e ≡ s) × (stopFed s ≡ s) × (callFed s c ≡ s)
+unfoldable pub bufferAlert : List ℕ → ℕ
+bufferAlert s = cond (eqb (length s) size && deviceOf s .unpaged .alert) 1 0

@@ -1,9 +1,9 @@
 -- How values stand in a buffer of bytes. A form has a width, the bytes of a value, and the value that stands at a place; forms are put together
 -- from a byte, a word (low byte first) and a mark (one byte, 0 or 1; any other byte reads as 1).
 -- Assumes nothing.
-use Prim.Native.Nat.{ℕ, zero, suc, _+_, _*_, _/_, _%_, _<_}
+use Prim.Native.Nat.{ℕ, zero, suc, _+_, _*_, _/_, _%_}
 use mathlib.Core.Path.{_≡_}
-use mathlib.Core.Bool.{Bool, true, false, cond, not}
+use mathlib.Core.Bool.{Bool, false, cond, not}
 use mathlib.Core.List.{List, [], _∷_, _++_}
 use lib.ListN.{length, getD, set}
 use lib.Dec.{eqb}

@@ -135,6 +135,12 @@ stateFrom x = record { part = x .0; device = x .1 }
 unfoldable pub stateForm : Form State
 stateForm = via stateTo stateFrom (both partForm deviceForm)
 
--- the length of a state buffer
+-- the length of a state buffer, where its pages begin, and the pages that stand there
 abbrev pub size : ℕ
 size = 466
+
+abbrev pub pagesFrom : ℕ
+pagesFrom = 34
+
+abbrev pub pagesIn : List ℕ → List Page
+pagesIn s = array 8 pageForm .get s pagesFrom

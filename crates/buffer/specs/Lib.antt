@@ -1,3 +1,4 @@
 pub mod Form
 pub mod Layout
 pub mod Buffer
+pub mod Private

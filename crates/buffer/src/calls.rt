@@ -1,177 +1,188 @@
-// STOP, power-on and the other calls over a lent state buffer: the device is taken out, a rule of the whole device works on it, and it is
-// put back.
+// The other calls over a state buffer, power-on, and what the firmware asks between two calls. The rules are those of lent records, with the
+// eight pages of the buffer.
 ghost use mathlib.Core.Path.{_≡_};
-ghost use mathlib.Core.Bool.{false, cond};
+ghost use mathlib.Core.List.{[]};
 ghost use lib.ListN.{length};
-ghost use lib.Dec.{eqb};
-ghost use Rattle.bus.specs.Automaton.{stop};
-ghost use Rattle.device.specs.Step.{measure, sample, tick};
-ghost use Rattle.buffer.specs.Buffer.{stopFed, callFed, powerFed, eventGives, callGives, calledBy, StopFinds, CallFinds};
-ghost use Rattle.buffer.specs.Layout.{partForm, deviceForm};
-use super::device_record::load_device;
-use super::device_record::save_device;
-use super::part::load_part;
+ghost use Rattle.reads.specs.Reply.{replyOf};
+ghost use Rattle.device.specs.Step.{measure, sample, alertResponse, tick, step};
+ghost use Rattle.device.specs.Supply.{suppliesAt};
+ghost use Rattle.buffer.specs.Buffer.{deviceOf, stores, storeDevice, callFed, callGives, callSends, powerFed, powerGives, bufferSupplies, bufferAlert};
+ghost use Rattle.buffer.specs.Private.{Held, storeUnpaged, Answers};
+ghost use Rattle.buffer.specs.Layout.{size};
+use super::pages;
 use super::part::save_part;
 use super::steps::ready;
-use bus::Part;
-use device::Device;
-use device::Done;
+use super::unpaged_part::load_unpaged;
+use super::unpaged_part::save_unpaged;
+use lent::turns::Sending;
 
-// What a call finds out before the buffer is touched: whether it is ready, the device then, and the answer.
-pub struct Called {
-    pub ready: bool,
-    pub device: Device,
-    pub answer: u8,
-}
-
-// A buffer that is not ready.
-fn unready() -> Called
-    ensures { λ r. ⌜ (r .ready ≡ false) × (r .answer ≡ 15) ⌝ }
+fn measured(s: &mut [u8], page: u8, quantity: u8, word: u16) -> u8
+    requires { ⌜ Held (now s) ⌝ }
+    ensures { λ r. ⌜ (r ≡ step (deviceOf (now (s .entry))) (measure page quantity word) .done .answer)
+        × (now (s .exit) ≡ storeDevice (stores (deviceOf (now (s .entry))) (measure page quantity word)) (now (s .entry)) (step (deviceOf (now (s .entry))) (measure page quantity word) .done .device)) ⌝ }
 {
-    let d = device::power_on();
-    Called {
-        ready: false,
-        device: d,
-        answer: answer::INVALID_STATE,
-    }
-}
-
-fn made(r: Done) -> Called
-    ensures { λ t. ⌜ t ≡ calledBy r ⌝ }
-{
-    let d = r.device;
-    Called {
-        ready: true,
-        device: d,
-        answer: r.answer,
-    }
-}
-
-fn stop_turn(s: &[u8]) -> Called
-    ensures { λ r. ⌜ StopFinds (now (s .entry)) r ⌝ }
-{
-    if !ready(s) {
-        return unready();
-    }
-    let p = load_part(s, 0);
-    let d = load_device(s, 22);
-    let r = stream::stop(d, p);
-    made(r)
-}
-
-fn measure_turn(s: &[u8], page: u8, quantity: u8, word: u16) -> Called
-    ensures { λ r. ⌜ CallFinds (now (s .entry)) (measure page quantity word) r ⌝ }
-{
-    if !ready(s) {
-        return unready();
-    }
-    let d = load_device(s, 22);
-    let r = device::measure(d, page, quantity, word);
-    made(r)
-}
-
-fn sample_turn(s: &[u8], power: u16) -> Called
-    ensures { λ r. ⌜ CallFinds (now (s .entry)) (sample power) r ⌝ }
-{
-    if !ready(s) {
-        return unready();
-    }
-    let d = load_device(s, 22);
-    let r = device::sample(d, power);
-    made(r)
-}
-
-fn tick_turn(s: &[u8]) -> Called
-    ensures { λ r. ⌜ CallFinds (now (s .entry)) tick r ⌝ }
-{
-    if !ready(s) {
-        return unready();
-    }
-    let d = load_device(s, 22);
-    let r = device::tick(d);
-    made(r)
-}
-
-// Only a buffer that is ready is changed.
-fn put_part(s: &mut [u8], ready: bool, p: Part)
-    ensures { λ _. ⌜ now (s .exit) ≡ cond ready (cond (eqb (length (now (s .entry))) 466) (partForm .store (now (s .entry)) 0 p) (now (s .entry))) (now (s .entry)) ⌝ }
-{
-    if ready {
-        if s.len() == 466 {
-            save_part(s, 0, p);
-        }
-    }
-}
-
-fn put_device(s: &mut [u8], ready: bool, d: Device)
-    ensures { λ _. ⌜ now (s .exit) ≡ cond ready (cond (eqb (length (now (s .entry))) 466) (deviceForm .store (now (s .entry)) 22 d) (now (s .entry))) (now (s .entry)) ⌝ }
-{
-    if ready {
-        if s.len() == 466 {
-            save_device(s, 22, d);
-        }
-    }
-}
-
-// STOP: the answer.
-pub fn stop(s: &mut [u8]) -> u8
-    ensures { λ r. ⌜ (r ≡ eventGives (now (s .entry)) stop) × (now (s .exit) ≡ stopFed (now (s .entry))) ⌝ }
-{
-    let t = stop_turn(s);
-    let d = t.device;
-    let p = bus::idle();
-    put_part(s, t.ready, p);
-    put_device(s, t.ready, d);
-    t.answer
+    let u = load_unpaged(s, super::UNPAGED);
+    let p = pages::page_at(s, page);
+    let seen = stream::eight_valid();
+    let t = lent::turns::measure_turn(seen, u, p, page, quantity, word);
+    let r = t.outcome;
+    let q = t.page;
+    let v = r.unpaged;
+    pages::put_page(s, page, r.answer == answer::DONE, q);
+    save_unpaged(s, super::UNPAGED, v);
+    r.answer
 }
 
 // The latest word of a quantity (0 VOUT, 1 IOUT, 2 VIN, 3 temperature) on a page.
 pub fn measure(s: &mut [u8], page: u8, quantity: u8, word: u16) -> u8
     ensures { λ r. ⌜ (r ≡ callGives (now (s .entry)) (measure page quantity word)) × (now (s .exit) ≡ callFed (now (s .entry)) (measure page quantity word)) ⌝ }
 {
-    let t = measure_turn(s, page, quantity, word);
-    let d = t.device;
-    put_device(s, t.ready, d);
-    t.answer
+    if !ready(s) {
+        return answer::INVALID_STATE;
+    }
+    measured(s, page, quantity, word)
+}
+
+fn sampled(s: &mut [u8], power: u16) -> u8
+    requires { ⌜ Held (now s) ⌝ }
+    ensures { λ r. ⌜ (r ≡ step (deviceOf (now (s .entry))) (sample power) .done .answer)
+        × (now (s .exit) ≡ storeUnpaged (now (s .entry)) (step (deviceOf (now (s .entry))) (sample power) .done .device)) ⌝ }
+{
+    let u = load_unpaged(s, super::UNPAGED);
+    let seen = stream::eight_valid();
+    let r = lent::turns::sample_outcome(seen, u, power);
+    let v = r.unpaged;
+    save_unpaged(s, super::UNPAGED, v);
+    r.answer
 }
 
 // A power sample for the energy account.
 pub fn sample(s: &mut [u8], power: u16) -> u8
     ensures { λ r. ⌜ (r ≡ callGives (now (s .entry)) (sample power)) × (now (s .exit) ≡ callFed (now (s .entry)) (sample power)) ⌝ }
 {
-    let t = sample_turn(s, power);
-    let d = t.device;
-    put_device(s, t.ready, d);
-    t.answer
+    if !ready(s) {
+        return answer::INVALID_STATE;
+    }
+    sampled(s, power)
+}
+
+// The unpaged part stays; its alert mark is stored as 0 or 1.
+fn ticked(s: &mut [u8]) -> u8
+    requires { ⌜ Held (now s) ⌝ }
+    ensures { λ r. ⌜ (r ≡ step (deviceOf (now (s .entry))) tick .done .answer)
+        × (now (s .exit) ≡ storeDevice (stores (deviceOf (now (s .entry))) tick) (now (s .entry)) (step (deviceOf (now (s .entry))) tick .done .device)) ⌝ }
+{
+    let u = load_unpaged(s, super::UNPAGED);
+    pages::tick_each(s);
+    save_unpaged(s, super::UNPAGED, u);
+    answer::DONE
 }
 
 // A tick: one unit of the delays on every page.
 pub fn tick(s: &mut [u8]) -> u8
     ensures { λ r. ⌜ (r ≡ callGives (now (s .entry)) tick) × (now (s .exit) ≡ callFed (now (s .entry)) tick) ⌝ }
 {
-    let t = tick_turn(s);
-    let d = t.device;
-    put_device(s, t.ready, d);
-    t.answer
+    if !ready(s) {
+        return answer::INVALID_STATE;
+    }
+    ticked(s)
 }
 
-fn power_answer(fits: bool) -> u8
-    ensures { λ r. ⌜ r ≡ cond fits 0 15 ⌝ }
+// An answered or refused alert response of n bytes.
+fn alert_turn(s: &[u8], n: usize) -> Sending
+    requires { ⌜ Held (now s) ⌝ }
+    ensures { λ r. ⌜ Answers (now (s .entry)) (alertResponse n) r ⌝ }
 {
-    if fits {
-        return answer::DONE;
-    }
+    let u = load_unpaged(s, super::UNPAGED);
+    let seen = stream::eight_valid();
+    lent::turns::alert_turn(seen, u, n)
+}
+
+fn alerted(s: &mut [u8], reply: &mut [u8]) -> u8
+    requires { ⌜ Held (now s) ⌝ }
+    ensures { λ r. ⌜ (r ≡ step (deviceOf (now (s .entry))) (alertResponse (length (now (reply .entry)))) .done .answer)
+        × ((now (s .exit) ≡ storeUnpaged (now (s .entry)) (step (deviceOf (now (s .entry))) (alertResponse (length (now (reply .entry)))) .done .device))
+        × (now (reply .exit) ≡ step (deviceOf (now (s .entry))) (alertResponse (length (now (reply .entry)))) .reply)) ⌝ }
+{
+    let n = reply.len();
+    let t = alert_turn(s, n);
+    let stream = t.stream;
+    let r = t.outcome;
+    let v = r.unpaged;
+    reads::reply::send(reply, stream);
+    save_unpaged(s, super::UNPAGED, v);
+    r.answer
+}
+
+// Every byte of the reply of a state that gets 15.
+fn nothing_sent(reply: &mut [u8]) -> u8
+    ensures { λ r. ⌜ (r ≡ 15) × (now (reply .exit) ≡ replyOf [] (length (now (reply .entry)))) ⌝ }
+{
+    let stream = reads::reply::alert_stream(answer::INVALID_STATE);
+    reads::reply::send(reply, stream);
     answer::INVALID_STATE
+}
+
+// The alert response: the device that holds the alert up answers with its address.
+pub fn alert_response(s: &mut [u8], reply: &mut [u8]) -> u8
+    ensures { λ r. ⌜ (r ≡ callGives (now (s .entry)) (alertResponse (length (now (reply .entry)))))
+        × ((now (s .exit) ≡ callFed (now (s .entry)) (alertResponse (length (now (reply .entry)))))
+        × (now (reply .exit) ≡ callSends (now (s .entry)) (alertResponse (length (now (reply .entry)))))) ⌝ }
+{
+    if !ready(s) {
+        return nothing_sent(reply);
+    }
+    alerted(s, reply)
+}
+
+fn powered(s: &mut [u8])
+    requires { ⌜ length (now s) ≡ size ⌝ }
+    ensures { λ _. ⌜ now (s .exit) ≡ powerFed (now (s .entry)) ⌝ }
+{
+    let p = bus::idle();
+    let u = unpaged::power_on_unpaged();
+    save_part(s, 0, p);
+    save_unpaged(s, super::UNPAGED, u);
+    pages::power_on_each(s);
 }
 
 // Power-on of a buffer, whatever it holds: 0, or 15 for another length.
 pub fn power_on(s: &mut [u8]) -> u8
-    ensures { λ r. ⌜ (r ≡ cond (eqb (length (now (s .entry))) 466) 0 15) × (now (s .exit) ≡ powerFed (now (s .entry))) ⌝ }
+    ensures { λ r. ⌜ (r ≡ powerGives (now (s .entry))) × (now (s .exit) ≡ powerFed (now (s .entry))) ⌝ }
 {
-    let fits = s.len() == 466;
-    let p = bus::idle();
-    let d = device::power_on();
-    put_part(s, fits, p);
-    put_device(s, fits, d);
-    power_answer(fits)
+    if s.len() != super::SIZE {
+        return answer::INVALID_STATE;
+    }
+    powered(s);
+    answer::DONE
+}
+
+fn supplying(s: &[u8], i: u8) -> bool
+    requires { ⌜ length (now s) ≡ size ⌝ }
+    ensures { λ r. ⌜ r ≡ suppliesAt (deviceOf (now (s .entry)) .pages) i ⌝ }
+{
+    let p = pages::page_at(s, i);
+    page::status::supplies(p)
+}
+
+// Whether the firmware keeps the supply of page i switched on: 1 or 0.
+pub fn supplies(s: &[u8], i: u8) -> u8
+    ensures { λ r. ⌜ r ≡ bufferSupplies (now (s .entry)) i ⌝ }
+{
+    if s.len() != super::SIZE {
+        return 0;
+    }
+    let on = supplying(s, i);
+    super::leaf::byte_of(on)
+}
+
+// Whether the alert is up: 1 or 0.
+pub fn alert(s: &[u8]) -> u8
+    ensures { λ r. ⌜ r ≡ bufferAlert (now (s .entry)) ⌝ }
+{
+    if s.len() != super::SIZE {
+        return 0;
+    }
+    let u = load_unpaged(s, super::UNPAGED);
+    super::leaf::byte_of(u.alert)
 }

@@ -2,6 +2,8 @@
 ghost use mathlib.Core.Path.{_≡_};
 ghost use Prim.Native.Nat.{_+_, _≤_};
 ghost use lib.ListN.{length};
+ghost use Rattle.bus.specs.Automaton.{byted};
+ghost use Rattle.buffer.specs.Private.{heardByte};
 ghost use Rattle.buffer.specs.Layout.{partForm};
 use super::leaf::put_byte;
 use super::leaf::put_bytes;
@@ -46,4 +48,27 @@ pub fn save_part(s: &mut [u8], o: usize, p: Part)
     put_byte(s, o3, p.clocked);
     let o4 = o3 + 1;
     put_bytes(s, o4, &reply);
+}
+
+// One byte more; the twelfth and all behind it are dropped.
+fn hear(s: &mut [u8], b: u8)
+    requires { ⌜ 22 ≤ length (now s) ⌝ }
+    ensures { λ _. ⌜ now (s .exit) ≡ heardByte (now (s .entry)) b ⌝ }
+{
+    let count = s[1];
+    if count < 11 {
+        let k = 2 + (count as usize);
+        s[1] = count + 1;
+        s[k] = b;
+    }
+}
+
+// A byte that the host wrote is kept, and the phase after it.
+pub fn keep(s: &mut [u8], b: u8)
+    requires { ⌜ 22 ≤ length (now s) ⌝ }
+    ensures { λ _. ⌜ now (s .exit) ≡ partForm .store (now (s .entry)) 0 (byted (partForm .get (now (s .entry)) 0) b) ⌝ }
+{
+    let phase = bus::after_byte(s[0]);
+    put_byte(s, 0, phase);
+    hear(s, b);
 }

@@ -1,29 +1,34 @@
-// The streaming device over a lent state buffer. A buffer of another length, or one whose state gets 15, is left as it is.
+// The five events over a state buffer.
 ghost use mathlib.Core.Path.{_≡_};
-ghost use mathlib.Core.Bool.{true, false, cond};
-ghost use lib.Dec.{eqb};
-ghost use Prim.Native.Nat.{_+_, _*_, _≤_};
+ghost use mathlib.Core.Bool.{cond};
 ghost use lib.ListN.{length};
-ghost use Rattle.bus.specs.Automaton.{start, byte, again, clock};
-ghost use Rattle.stream.specs.Stream.{byteTaken, stateValid};
-ghost use Rattle.buffer.specs.Buffer.{decode, ready, deviceOf, partFed, eventGives, Finds};
-ghost use Rattle.buffer.specs.Layout.{partForm};
-use super::device_record::pages_valid;
+ghost use Rattle.bus.specs.Automaton.{start, byte, again, clock, stop};
+ghost use Rattle.bus.specs.Part.{heard};
+ghost use Rattle.bus.specs.Ack.{ackOf};
+ghost use Rattle.device.specs.Step.{read, step};
+ghost use Rattle.stream.specs.Stream.{stateValid};
+ghost use Rattle.buffer.specs.Buffer.{decode, ready, partOf, deviceOf, eventFed, eventGives};
+ghost use Rattle.buffer.specs.Private.{Keeping, storeReply};
+ghost use Rattle.buffer.specs.Layout.{size};
+use super::leaf::byte_of;
+use super::leaf::put_bytes;
 use super::page_record::load_page;
+use super::pages;
+use super::part::keep;
 use super::part::load_part;
 use super::part::save_part;
+use super::stopping;
 use super::unpaged_part::load_unpaged;
-use bus::Part;
 
 fn holds_valid(s: &[u8]) -> bool
-    requires { ⌜ length (now s) ≡ 466 ⌝ }
+    requires { ⌜ length (now s) ≡ size ⌝ }
     ensures { λ r. ⌜ r ≡ stateValid (decode (now (s .entry))) ⌝ }
 {
     let p = load_part(s, 0);
-    let u = load_unpaged(s, 22);
+    let u = load_unpaged(s, super::UNPAGED);
     let part = bus::part_valid(p);
     let unpaged = unpaged::unpaged_valid(8, u);
-    let pages = pages_valid(s, 34);
+    let pages = pages::all_valid(s);
     part & (unpaged & pages)
 }
 
@@ -31,159 +36,106 @@ fn holds_valid(s: &[u8]) -> bool
 pub fn ready(s: &[u8]) -> bool
     ensures { λ r. ⌜ r ≡ ready (now (s .entry)) ⌝ }
 {
-    if s.len() != 466 {
+    if s.len() != super::SIZE {
         return false;
     }
     holds_valid(s)
 }
 
-// The second address byte: the reply is made, of the selected page alone.
-fn second(s: &[u8], p: Part, b: u8) -> Part
-    requires { ⌜ (ready (now s) ≡ true) × (p .phase ≡ 2) ⌝ }
-    ensures { λ r. ⌜ r ≡ byteTaken (deviceOf (now (s .entry))) p b ⌝ }
-{
-    let u = load_unpaged(s, 22);
-    let k = (u.page % 8) as usize;
-    let o = 34 + 54 * k;
-    let page = load_page(s, o);
-    stream::addressed(u, page, p, b)
-}
-
-fn taken(s: &[u8], p: Part, b: u8) -> Part
-    requires { ⌜ ready (now s) ≡ true ⌝ }
-    ensures { λ r. ⌜ r ≡ byteTaken (deviceOf (now (s .entry))) p b ⌝ }
-{
-    if p.phase == bus::TURNING {
-        return second(s, p, b);
-    }
-    bus::byted(p, b)
-}
-
-// What an event finds out before the buffer is touched: whether it is ready, what is kept then, and what the event gives.
-pub struct Turned {
-    pub ready: bool,
-    pub part: Part,
-    pub given: u8,
-}
-
-// A buffer that is not ready.
-fn refused(given: u8) -> Turned
-    ensures { λ r. ⌜ (r .ready ≡ false) × (r .given ≡ given) ⌝ }
-{
-    let p = bus::idle();
-    Turned {
-        ready: false,
-        part: p,
-        given: given,
-    }
-}
-
-fn start_turn(s: &[u8]) -> Turned
-    ensures { λ r. ⌜ Finds (now (s .entry)) start r ⌝ }
-{
-    if !ready(s) {
-        return refused(answer::INVALID_STATE);
-    }
-    let q = bus::start();
-    Turned {
-        ready: true,
-        part: q,
-        given: answer::DONE,
-    }
-}
-
-fn again_turn(s: &[u8]) -> Turned
-    ensures { λ r. ⌜ Finds (now (s .entry)) again r ⌝ }
-{
-    if !ready(s) {
-        return refused(answer::INVALID_STATE);
-    }
-    let p = load_part(s, 0);
-    let q = bus::restarted(p);
-    Turned {
-        ready: true,
-        part: q,
-        given: answer::DONE,
-    }
-}
-
-fn byte_turn(s: &[u8], b: u8) -> Turned
-    ensures { λ r. ⌜ Finds (now (s .entry)) (byte b) r ⌝ }
-{
-    if !ready(s) {
-        return refused(0);
-    }
-    let p = load_part(s, 0);
-    let q = taken(s, p, b);
-    let ack = bus::ack::ack_of(p, b);
-    let given = super::leaf::byte_of(ack);
-    Turned {
-        ready: true,
-        part: q,
-        given: given,
-    }
-}
-
-fn clock_turn(s: &[u8]) -> Turned
-    ensures { λ r. ⌜ Finds (now (s .entry)) clock r ⌝ }
-{
-    if !ready(s) {
-        return refused(255);
-    }
-    let p = load_part(s, 0);
-    let q = bus::clocked(p);
-    let given = bus::clock_byte(p);
-    Turned {
-        ready: true,
-        part: q,
-        given: given,
-    }
-}
-
-// Only a buffer that is ready is changed.
-fn put_back(s: &mut [u8], t: Turned)
-    ensures { λ _. ⌜ now (s .exit) ≡ cond (t .ready) (cond (eqb (length (now (s .entry))) 466) (partForm .store (now (s .entry)) 0 (t .part)) (now (s .entry))) (now (s .entry)) ⌝ }
-{
-    let p = t.part;
-    if t.ready {
-        if s.len() == 466 {
-            save_part(s, 0, p);
-        }
-    }
-}
-
 // START: 0, or 15.
 pub fn start(s: &mut [u8]) -> u8
-    ensures { λ r. ⌜ (r ≡ eventGives (now (s .entry)) start) × (now (s .exit) ≡ partFed (now (s .entry)) start) ⌝ }
+    ensures { λ r. ⌜ (r ≡ eventGives (now (s .entry)) start) × (now (s .exit) ≡ eventFed (now (s .entry)) start) ⌝ }
 {
-    let t = start_turn(s);
-    put_back(s, t);
-    t.given
+    if !ready(s) {
+        return answer::INVALID_STATE;
+    }
+    let q = bus::start();
+    save_part(s, 0, q);
+    answer::DONE
 }
 
 // A repeated START: 0, or 15.
 pub fn again(s: &mut [u8]) -> u8
-    ensures { λ r. ⌜ (r ≡ eventGives (now (s .entry)) again) × (now (s .exit) ≡ partFed (now (s .entry)) again) ⌝ }
+    ensures { λ r. ⌜ (r ≡ eventGives (now (s .entry)) again) × (now (s .exit) ≡ eventFed (now (s .entry)) again) ⌝ }
 {
-    let t = again_turn(s);
-    put_back(s, t);
-    t.given
+    if !ready(s) {
+        return answer::INVALID_STATE;
+    }
+    let p = load_part(s, 0);
+    let q = bus::restarted(p);
+    save_part(s, 0, q);
+    answer::DONE
+}
+
+// ACK or NACK for the byte b.
+fn acknowledged(s: &[u8], b: u8) -> bool
+    requires { ⌜ Keeping (now s) ⌝ }
+    ensures { λ r. ⌜ r ≡ ackOf (partOf (now (s .entry))) b ⌝ }
+{
+    let e = 2 + (s[1] as usize);
+    bus::ack::ack_in(s[0], &s[2..e], b)
+}
+
+// The reply to the bytes kept, of the selected page alone.
+fn reply(s: &[u8]) -> [u8; 8]
+    requires { ⌜ Keeping (now s) ⌝ }
+    ensures { λ r. ⌜ r ≡ step (deviceOf (now (s .entry))) (read (heard (partOf (now (s .entry)))) 8) .reply ⌝ }
+{
+    let u = load_unpaged(s, super::UNPAGED);
+    let k = (u.page % 8) as usize;
+    let o = super::PAGES + super::PAGE * k;
+    let page = load_page(s, o);
+    let e = 2 + (s[1] as usize);
+    stream::reply(u, page, &s[2..e])
+}
+
+// The second address byte has come, where that is so: the whole reply is made, and kept.
+fn answer(s: &mut [u8], second: bool)
+    requires { ⌜ Keeping (now s) ⌝ }
+    ensures { λ _. ⌜ now (s .exit) ≡ cond second (storeReply (now (s .entry)) (step (deviceOf (now (s .entry))) (read (heard (partOf (now (s .entry)))) 8) .reply)) (now (s .entry)) ⌝ }
+{
+    if second {
+        let bytes = reply(s);
+        put_bytes(s, super::REPLY, &bytes);
+    }
 }
 
 // A byte that the host wrote: 1 for ACK, 0 for NACK.
 pub fn byte(s: &mut [u8], b: u8) -> u8
-    ensures { λ r. ⌜ (r ≡ eventGives (now (s .entry)) (byte b)) × (now (s .exit) ≡ partFed (now (s .entry)) (byte b)) ⌝ }
+    ensures { λ r. ⌜ (r ≡ eventGives (now (s .entry)) (byte b)) × (now (s .exit) ≡ eventFed (now (s .entry)) (byte b)) ⌝ }
 {
-    let t = byte_turn(s, b);
-    put_back(s, t);
-    t.given
+    if !ready(s) {
+        return 0;
+    }
+    let ack = acknowledged(s, b);
+    let second = s[0] == bus::TURNING;
+    keep(s, b);
+    answer(s, second);
+    byte_of(ack)
 }
 
 // A byte that the host clocks: what is sent.
 pub fn clock(s: &mut [u8]) -> u8
-    ensures { λ r. ⌜ (r ≡ eventGives (now (s .entry)) clock) × (now (s .exit) ≡ partFed (now (s .entry)) clock) ⌝ }
+    ensures { λ r. ⌜ (r ≡ eventGives (now (s .entry)) clock) × (now (s .exit) ≡ eventFed (now (s .entry)) clock) ⌝ }
 {
-    let t = clock_turn(s);
-    put_back(s, t);
-    t.given
+    if !ready(s) {
+        return 255;
+    }
+    let p = load_part(s, 0);
+    let q = bus::clocked(p);
+    save_part(s, 0, q);
+    bus::clock_byte(p)
+}
+
+// STOP: the answer.
+pub fn stop(s: &mut [u8]) -> u8
+    ensures { λ r. ⌜ (r ≡ eventGives (now (s .entry)) stop) × (now (s .exit) ≡ eventFed (now (s .entry)) stop) ⌝ }
+{
+    if !ready(s) {
+        return answer::INVALID_STATE;
+    }
+    let p = load_part(s, 0);
+    let q = bus::idle();
+    save_part(s, 0, q);
+    stopping::ended(s, p)
 }

@@ -7,7 +7,6 @@ use mathlib.Core.Bool.{Bool, true, false, cond, _&&_, _||_}
 use mathlib.Core.List.{List}
 use lib.ListN.{length, getD}
 use lib.Dec.{ltb, eqb}
-use Rattle.command.specs.declared.table.Entry.{Entry}
 use Rattle.command.specs.Table.{lookup}
 use Rattle.bus.specs.declared.Part.{Part}
 use Rattle.bus.specs.Part.{heard, writing, turning}
@@ -36,11 +35,12 @@ orderly s =
 unfoldable pub ackedSecond : List ℕ → ℕ → Bool
 ackedSecond s b = orderly s && eqb b 0xC1
 
-unfoldable pub ackOf : Part → ℕ → Bool
-ackOf p b =
-    cond (eqb (p .phase) writing) (ackedFirst (heard p) b)
-    (cond (eqb (p .phase) turning) (ackedSecond (heard p) b)
-    false)
+-- by the phase: in every other than these two a byte breaks the order
+unfoldable pub ackIn : ℕ → List ℕ → ℕ → Bool
+ackIn phase s b = cond (eqb phase writing) (ackedFirst s b) (cond (eqb phase turning) (ackedSecond s b) false)
+
+abbrev pub ackOf : Part → ℕ → Bool
+ackOf p b = ackIn (p .phase) (heard p) b
 
 -- Who gets NACK, in words. The bytes s have a wrong address byte or a code that the table lacks;
 pub data Wrong (s : List ℕ) : Type 0 where

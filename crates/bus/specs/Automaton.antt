@@ -17,7 +17,7 @@ use mathlib.Core.List.{List, [], _∷_}
 use lib.ListN.{getD}
 use lib.Dec.{eqb}
 use Rattle.bus.specs.declared.Part.{Part}
-use Rattle.bus.specs.Part.{idlePhase, writing, turning, reading, broken, inPhase, taking, clocking, started, idle}
+use Rattle.bus.specs.Part.{writing, turning, reading, broken, inPhase, taking, clocking, started, idle}
 
 -- what the bus block hands over
 pub data Event : Type 0 where

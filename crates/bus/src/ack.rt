@@ -1,19 +1,16 @@
 // ACK and NACK. The bytes s are those kept of a transaction, b is the byte behind them.
 ghost use mathlib.Core.Path.{_≡_};
-ghost use Prim.Native.Nat.{_≤_, min};
+ghost use mathlib.Core.Bool.{_||_};
+ghost use Prim.Native.Nat.{_≤_};
 ghost use lib.ListN.{length};
-ghost use Rattle.bus.specs.Part.{heard};
-ghost use Rattle.bus.specs.Ack.{known, roomBehind, orderly, ackedFirst, ackedSecond, ackOf};
-use super::Part;
+ghost use Rattle.bus.specs.Ack.{known, roomBehind, orderly, ackedFirst, ackedSecond, ackIn};
+use command::table::Entry;
 
-// How many bytes are kept.
-pub fn kept(p: Part) -> usize
-    ensures { λ r. ⌜ r ≡ min (p .count) 11 ⌝ }
+// An entry that is one of the table's.
+fn listed(e: Entry) -> bool
+    ensures { λ r. ⌜ r ≡ (e .written || e .read) ⌝ }
 {
-    if p.count < 11 {
-        return p.count as usize;
-    }
-    11
+    e.written | e.read
 }
 
 // The table has the code.
@@ -21,7 +18,7 @@ fn known(code: u8) -> bool
     ensures { λ r. ⌜ r ≡ known code ⌝ }
 {
     let e = command::lookup(code);
-    e.written | e.read
+    listed(e)
 }
 
 // Data or packet check still have a place behind s.
@@ -29,10 +26,8 @@ fn room_behind(s: &[u8]) -> bool
     requires { ⌜ 2 ≤ length (now s) ⌝ }
     ensures { λ r. ⌜ r ≡ roomBehind (now (s .entry)) ⌝ }
 {
-    let code = s[1];
-    let e = command::lookup(code);
-    let k = known(code);
-    k & (s.len() < e.length as usize + 3)
+    let e = command::lookup(s[1]);
+    listed(e) & (s.len() < e.length as usize + 3)
 }
 
 // Before a repeated START.
@@ -75,31 +70,15 @@ fn acked_second(s: &[u8], b: u8) -> bool
     right & (b == 0xC1)
 }
 
-fn first_ack(p: Part, b: u8) -> bool
-    ensures { λ r. ⌜ r ≡ ackedFirst (heard p) b ⌝ }
+// ACK for the byte b behind the bytes s, or NACK.
+pub fn ack_in(phase: u8, s: &[u8], b: u8) -> bool
+    ensures { λ r. ⌜ r ≡ ackIn phase (now (s .entry)) b ⌝ }
 {
-    let n = kept(p);
-    let bytes = p.bytes;
-    acked_first(&bytes[..n], b)
-}
-
-fn second_ack(p: Part, b: u8) -> bool
-    ensures { λ r. ⌜ r ≡ ackedSecond (heard p) b ⌝ }
-{
-    let n = kept(p);
-    let bytes = p.bytes;
-    acked_second(&bytes[..n], b)
-}
-
-// ACK for the byte b, or NACK.
-pub fn ack_of(p: Part, b: u8) -> bool
-    ensures { λ r. ⌜ r ≡ ackOf p b ⌝ }
-{
-    if p.phase == super::WRITING {
-        return first_ack(p, b);
+    if phase == super::WRITING {
+        return acked_first(s, b);
     }
-    if p.phase == super::TURNING {
-        return second_ack(p, b);
+    if phase == super::TURNING {
+        return acked_second(s, b);
     }
     false
 }

@@ -1,9 +1,10 @@
 // One transaction as the bus hands it over, byte by byte: what is kept of it, which bytes get an ACK, and what is sent. The
 // rules of a transaction are not here; at STOP the bytes kept go to them (crate stream).
 ghost use mathlib.Core.Path.{_≡_};
+ghost use Prim.Native.Nat.{min};
 ghost use lib.ListN.{getD};
-ghost use Rattle.bus.specs.Part.{inPhase, taking, clocking, answering, started, idle, partValid};
-ghost use Rattle.bus.specs.Automaton.{afterByte, afterAgain, afterClock, byted, restarted, clocked, clockByte};
+ghost use Rattle.bus.specs.Part.{inPhase, clocking, started, idle, partValid};
+ghost use Rattle.bus.specs.Automaton.{afterByte, afterAgain, afterClock, restarted, clocked, clockByte};
 
 pub mod ack; // ack.rt: ACK and NACK
 
@@ -28,6 +29,16 @@ pub const TURNING: u8 = 2;
 pub const READING: u8 = 3;
 
 const BROKEN: u8 = 4;
+
+// How many bytes are kept.
+pub fn kept(p: Part) -> usize
+    ensures { λ r. ⌜ r ≡ min (p .count) 11 ⌝ }
+{
+    if p.count < 11 {
+        return p.count as usize;
+    }
+    11
+}
 
 // Each number is one that occurs.
 pub fn part_valid(p: Part) -> bool
@@ -70,20 +81,6 @@ fn in_phase(p: Part, phase: u8) -> Part
     q
 }
 
-// One more byte kept; the twelfth and all behind it are dropped.
-fn taking(p: Part, b: u8) -> Part
-    ensures { λ r. ⌜ r ≡ taking p b ⌝ }
-{
-    if p.count < 11 {
-        let k = p.count as usize;
-        let mut q = p;
-        q.bytes[k] = b;
-        q.count = p.count + 1;
-        return q;
-    }
-    p
-}
-
 // One more byte clocked; the count stops at nine.
 fn clocking(p: Part) -> Part
     ensures { λ r. ⌜ r ≡ clocking p ⌝ }
@@ -97,7 +94,7 @@ fn clocking(p: Part) -> Part
 }
 
 // The phase after a byte that the host wrote.
-fn after_byte(phase: u8) -> u8
+pub fn after_byte(phase: u8) -> u8
     ensures { λ r. ⌜ r ≡ afterByte phase ⌝ }
 {
     if phase == WRITING {
@@ -125,24 +122,6 @@ fn after_clock(phase: u8) -> u8
         return READING;
     }
     BROKEN
-}
-
-// A byte that the host wrote. Where it is the second address byte, the reply is still to be made (`answering`).
-pub fn byted(p: Part, b: u8) -> Part
-    ensures { λ r. ⌜ r ≡ byted p b ⌝ }
-{
-    let phase = after_byte(p.phase);
-    let q = taking(p, b);
-    in_phase(q, phase)
-}
-
-// With the reply that was made at the second address byte.
-pub fn answering(p: Part, reply: [u8; 8]) -> Part
-    ensures { λ r. ⌜ r ≡ answering p reply ⌝ }
-{
-    let mut q = p;
-    q.reply = reply;
-    q
 }
 
 // A repeated START.

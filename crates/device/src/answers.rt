@@ -1,4 +1,4 @@
-// The test for answer 15, and what a refusal leaves: for every kind of call, and for devices that build on this one.
+// The test for answer 15, and what a refusal leaves: for every kind of call.
 ghost use mathlib.Core.Path.{_≡_};
 ghost use mathlib.Core.Bool.{cond};
 ghost use Rattle.device.specs.Device.{deviceValid};

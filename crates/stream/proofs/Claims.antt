@@ -1,28 +1,25 @@
 -- The streaming device beside the whole-transaction device.
 -- Assumes nothing.
-use Prim.Native.Nat.{ℕ, zero, suc, _<_}
-use mathlib.Core.Path.{_≡_, refl, sym, ap, _∙_}
-use mathlib.Core.Bool.{Bool, true, false, cond, _&&_, and-eq-true-iff}
+use Prim.Native.Nat.{ℕ, zero, suc}
+use mathlib.Core.Path.{_≡_, refl, ap, _∙_}
+use mathlib.Core.Bool.{true, false, and-eq-true-iff}
 use mathlib.Core.List.{List, [], _∷_, _++_, map}
-use native.Mathlib.Omega.{arith}
 use lib.ListN.{length, replicate}
 use lib.Dec.{eqb}
-use borrow.Author.Tests.{eq-eqb}
 use Rattle.laws.proofs.Branches.{either, other-eqb}
 use Rattle.bus.specs.declared.Part.{Part}
-use Rattle.bus.specs.Part.{partValid, idlePhase, broken, started}
+use Rattle.bus.specs.Part.{partValid, started}
 use Rattle.bus.specs.Automaton.{Event, start, byte, again, clock, stop, afterByte, afterAgain, afterClock, byted, restarted, clocked, partAfter, partOf, clockByte}
-use Rattle.bus.specs.Ack.{ackOf}
-use Rattle.bus.specs.Orders.{writeOrder, turnOrder, readOrder, Inner, Order, aWrite, aTurn, aRead, aBreach, EveryOrder, BreachLasts}
+use Rattle.bus.specs.Ack.{ackIn}
+use Rattle.bus.specs.Orders.{turnOrder, Inner, Order, aWrite, aTurn, aRead, aBreach, EveryOrder, BreachLasts}
 use Rattle.bus.proofs.Orders.{every-order, breach-lasts}
-use Rattle.unpaged.specs.Unpaged.{cmlBits}
 use Rattle.device.specs.declared.Device.{Device}
 use Rattle.device.specs.declared.Done.{Done}
 use Rattle.device.specs.Device.{deviceValid}
-use Rattle.device.specs.Step.{Call, write, read, done, step}
-use Rattle.stream.specs.Stream.{State, state, stateValid, byteTaken, partNext, ended, beginAnswer, byteAck, byteSent, stopped, called, Turn, on, call, deviceNext, after, feed, sentIn, events}
-use Rattle.stream.specs.Between.{Mixed, put, aside, putting, clocking, puts, later}
-use Rattle.stream.specs.Claims.{Written, Read, End, asWrite, asRead, unfinished, breach, EveryEnd, AckedFirst, AckedSecond, Disorder, Breach, NoStart, Dropped, Deaf, Fifteen}
+use Rattle.device.specs.Step.{Call, done}
+use Rattle.stream.specs.Stream.{State, state, stateValid, byteTaken, partNext, ended, beginAnswer, byteAck, byteSent, stopped, called, Turn, on, deviceNext, after, feed, events}
+use Rattle.stream.specs.Between.{Mixed, put, putting, clocking, puts, later}
+use Rattle.stream.specs.Claims.{Written, Read, End, asWrite, asRead, unfinished, breach, EveryEnd, AckedFirst, AckedSecond, Disorder, Breach, NoStart, Dropped, Fifteen}
 use Rattle.stream.proofs.Fold.{Steady, whole, stays, fifteen-left, write-between, first-between, second-between, turn-between, read-between, sent-between}
 
 -- ---- nothing between
@@ -168,7 +165,7 @@ follow-start s v = follow s s (s .part) started start (record { phase = refl; va
 -- a state in which nothing orderly is under way
 disorder : (s : State) → stateValid s ≡ true → (k : ℕ) → s .part .phase ≡ k
     → eqb k 1 ≡ false → eqb k 2 ≡ false → eqb k 3 ≡ false → Disorder s
-unfolding byteAck ackOf byteSent clockByte stopped ended
+unfolding byteAck ackIn byteSent clockByte stopped ended
 disorder s v k e one two three = record {
   nack = λ b. rw (v, other-eqb _ 1 k e one, other-eqb _ 2 k e two);
   ones = rw (v, other-eqb _ 3 k e three);

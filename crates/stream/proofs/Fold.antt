@@ -1,19 +1,18 @@
 -- Event by event is the whole transaction, with other calls between as well.
 -- Assumes nothing.
-use Prim.Native.Nat.{ℕ, zero, suc, _+_, _<_, _≤_, min}
+use Prim.Native.Nat.{ℕ, suc, _+_, _≤_, min}
 use mathlib.Core.Path.{_≡_, refl, sym, ap, ap₂, _∙_}
-use mathlib.Core.Bool.{Bool, true, false, cond, _&&_}
-use mathlib.Core.List.{List, [], _∷_, _++_, append-nil, append-assoc, cons-ne-nil}
+use mathlib.Core.Bool.{true, false}
+use mathlib.Core.List.{List, [], _∷_, _++_, append-nil, cons-ne-nil}
 use native.Mathlib.Omega.{arith}
 use lib.ListN.{length, getD, take}
 use lib.Seq.{append-snoc}
-use lib.Dec.{eqb}
 use borrow.Author.Tests.{eq-eqb}
 use Rattle.laws.proofs.Branches.{either, other-eqb}
 use Rattle.bus.specs.declared.Part.{Part}
-use Rattle.bus.specs.Part.{partValid, heard, started, writing, turning, reading}
+use Rattle.bus.specs.Part.{partValid, heard, started}
 use Rattle.bus.specs.Automaton.{Event, start, byte, again, clock, stop, afterByte, afterAgain, afterClock, byted, restarted, clocked, partAfter, clockByte}
-use Rattle.bus.specs.Ack.{ackedFirst, ackedSecond, ackOf}
+use Rattle.bus.specs.Ack.{ackedFirst, ackedSecond, ackIn}
 use Rattle.unpaged.specs.Unpaged.{cmlBits}
 use Rattle.reads.specs.Answers.{answersData}
 use Rattle.reads.specs.Data.{readStream}
@@ -21,9 +20,9 @@ use Rattle.reads.specs.Reply.{replyOf}
 use Rattle.reads.proofs.Lengths.{stream-length}
 use Rattle.device.specs.declared.Device.{Device}
 use Rattle.device.specs.Device.{deviceValid}
-use Rattle.device.specs.Step.{Call, write, read, answered, left, refusedDevice, sent, done, step}
+use Rattle.device.specs.Step.{Call, write, read, answered, left, sent, done, step}
 use Rattle.device.proofs.Refused.{device-stays}
-use Rattle.stream.specs.Stream.{State, state, stateValid, byteTaken, partNext, ended, byteAck, byteSent, stopped, called, Turn, on, call, deviceNext, after, feed, sentIn}
+use Rattle.stream.specs.Stream.{State, stateValid, byteTaken, partNext, ended, byteAck, byteSent, stopped, called, Turn, on, call, deviceNext, after, feed, sentIn}
 use Rattle.stream.specs.Between.{Mixed, put, aside, putting, clocking, puts, later}
 use Rattle.stream.specs.Claims.{WriteByEleven, ReadByEleven, PartStays}
 use Rattle.stream.proofs.Prefix.{write-by-eleven, read-by-eleven, readSent, sent-cut, sent-any, first-cut, second-cut}
@@ -62,7 +61,7 @@ unfolding byted afterByte
 byted-turning p b e = rw (other-eqb _ 1 2 e refl, eq-eqb _ _ e)
 
 module _ (s : State) (h : List ℕ) where
-  hear-byte : (b : ℕ) → Hears 1 s h → Hears 1 (after s (on (byte b))) (h ++ b ∷ [])
+  pub hear-byte : (b : ℕ) → Hears 1 s h → Hears 1 (after s (on (byte b))) (h ++ b ∷ [])
   unfolding after partNext byteTaken deviceNext
   hear-byte b k =
       let v = byted-valid (s .part) b (k .kept) in
@@ -76,7 +75,7 @@ module _ (s : State) (h : List ℕ) where
         valid = k .valid;
       })
 
-  hear-again : Hears 1 s h → Hears 2 (after s (on again)) h
+  pub hear-again : Hears 1 s h → Hears 2 (after s (on again)) h
   unfolding after partNext partAfter deviceNext restarted afterAgain
   hear-again k =
       let v = restarted-valid (s .part) (k .kept) in
@@ -111,11 +110,11 @@ module _ (s : State) (h : List ℕ) where
   heard-turn k = rw (whole s (k .kept) (k .valid), other-eqb _ 1 2 (k .phase-is) refl, other-eqb _ 3 2 (k .phase-is) refl)
 
   heard-first : (b : ℕ) → Hears 1 s h → byteAck s b ≡ ackedFirst h b
-  unfolding byteAck ackOf
+  unfolding byteAck ackIn
   heard-first b k = rw (whole s (k .kept) (k .valid), eq-eqb _ _ (k .phase-is), k .holds .same) (first-cut h b)
 
   heard-second : (b : ℕ) → Hears 2 s h → byteAck s b ≡ ackedSecond h b
-  unfolding byteAck ackOf
+  unfolding byteAck ackIn
   heard-second b k =
       rw (whole s (k .kept) (k .valid), other-eqb _ 1 2 (k .phase-is) refl, eq-eqb _ _ (k .phase-is), k .holds .same)
       (second-cut h b)
@@ -129,7 +128,7 @@ pub record Talks (s : State) (h x : List ℕ) (k : ℕ) : Type 0 where
   pub kept : partValid (s .part) ≡ true
   pub valid : deviceValid (s .device) ≡ true
 
-talk-start : (s : State) (h : List ℕ) (b : ℕ) → Hears 2 s h
+pub talk-start : (s : State) (h : List ℕ) (b : ℕ) → Hears 2 s h
     → Talks (after s (on (byte b))) (h ++ b ∷ []) (readSent (s .device) (h ++ b ∷ []) 8) 0
 unfolding after partNext byteTaken deviceNext step
 talk-start s h b k =
@@ -151,7 +150,7 @@ module _ (s : State) (h x : List ℕ) (k : ℕ) (w : Talks s h x k) where
   unfolding clocked afterClock
   clock-phase = rw (eq-eqb _ _ (w .phase-is))
 
-  talk-clock : Talks (after s (on clock)) h x (suc k)
+  pub talk-clock : Talks (after s (on clock)) h x (suc k)
   unfolding after partNext partAfter deviceNext
   talk-clock =
       let n = w .so-far in

@@ -2,19 +2,19 @@
 -- Assumes nothing.
 use Prim.Native.Nat.{ℕ, suc, _+_, _<_, _≤_, min}
 use mathlib.Core.Path.{_≡_, refl, sym, ap, _∙_}
-use mathlib.Core.Bool.{Bool, true, false, cond, _&&_, and-eq-true-iff}
+use mathlib.Core.Bool.{true, _&&_, and-eq-true-iff}
 use mathlib.Core.List.{List, [], _∷_, _++_}
 use native.Mathlib.Omega.{arith}
-use lib.ListN.{length, take, set, length-append, length-set}
+use lib.ListN.{length, take, length-append, length-set}
 use lib.Seq.{take-suc-set, take-all, take-append-le}
 use lib.Dec.{ltb, eqb}
 use borrow.Author.Tests.{ltb-true, ltb-false, lt-ltb, le-ltb}
 use Rattle.laws.proofs.Branches.{either}
 use Rattle.bus.specs.declared.Part.{Part}
-use Rattle.bus.specs.Part.{heard, part, partValid, inPhase, answering, idle, started, taking, clocking, writing, turning, reading}
+use Rattle.bus.specs.Part.{heard, part, partValid, idle, started, taking, clocking}
 use Rattle.bus.specs.Automaton.{Event, start, byte, again, clock, stop, afterByte, afterAgain, afterClock, byted, restarted, clocked, partAfter}
 use Rattle.device.specs.declared.Device.{Device}
-use Rattle.stream.specs.Stream.{State, stateValid, byteTaken, partNext, Turn, on, call, after}
+use Rattle.stream.specs.Stream.{stateValid, byteTaken, partNext, on, call, after}
 use Rattle.stream.specs.Claims.{PartStays}
 
 -- ---- valid parts

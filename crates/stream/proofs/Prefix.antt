@@ -1,8 +1,8 @@
 -- The first eleven bytes of a transaction decide, and of the number of bytes clocked whether it passes eight.
 -- Assumes nothing.
 use Prim.Native.Nat.{ℕ, _+_, _-_, _<_, _≤_, min}
-use mathlib.Core.Path.{_≡_, refl, sym, ap, _∙_}
-use mathlib.Core.Bool.{Bool, true, false, cond, and-eq-true-iff}
+use mathlib.Core.Path.{_≡_, refl, _∙_}
+use mathlib.Core.Bool.{Bool, true, and-eq-true-iff}
 use mathlib.Core.List.{List, [], _∷_}
 use native.Mathlib.Omega.{arith}
 use lib.ListN.{length, getD, take, length-take}
@@ -18,12 +18,11 @@ use Rattle.bus.specs.Ack.{orderly, roomBehind, ackedFirst, ackedSecond}
 use Rattle.unpaged.specs.declared.Unpaged.{Unpaged}
 use Rattle.writes.specs.declared.asked.Write.{Write}
 use Rattle.writes.specs.Asked.{asked}
-use Rattle.writes.specs.Answers.{dataAnswer, lengthAnswer, codeAnswer, addressedAnswer, writeAnswer, checkRight}
+use Rattle.writes.specs.Answers.{lengthAnswer, codeAnswer, addressedAnswer, writeAnswer}
 use Rattle.reads.specs.Answers.{entryAnswer, headerAnswer, readAnswer, answersData}
 use Rattle.reads.specs.Data.{readStream}
 use Rattle.device.specs.declared.Device.{Device}
-use Rattle.device.specs.Device.{deviceValid}
-use Rattle.device.specs.Step.{write, read, answerOf, answered, effect, left, sent, step}
+use Rattle.device.specs.Step.{read, answerOf, answered, effect, left, sent, step}
 use Rattle.stream.specs.Claims.{WriteByEleven, ReadByEleven}
 
 -- ---- no code has more than seven data bytes

@@ -3,17 +3,16 @@
 -- Assumes nothing.
 use Prim.Native.Nat.{ℕ, min}
 use mathlib.Core.Path.{_≡_}
-use mathlib.Core.Bool.{Bool, true, false}
+use mathlib.Core.Bool.{true, false}
 use mathlib.Core.List.{List, [], _∷_, _++_}
 use lib.ListN.{take}
-use Rattle.bus.specs.declared.Part.{Part}
 use Rattle.bus.specs.Part.{idlePhase, broken, partValid, started}
-use Rattle.bus.specs.Automaton.{Event, start, byte, again, clock, stop}
+use Rattle.bus.specs.Automaton.{Event, start, byte, again, clock}
 use Rattle.bus.specs.Ack.{ackedFirst, ackedSecond}
 use Rattle.bus.specs.Orders.{writeOrder, turnOrder, readOrder, Inner}
 use Rattle.device.specs.declared.Device.{Device}
 use Rattle.device.specs.Step.{Call, write, read, done, step}
-use Rattle.stream.specs.Stream.{State, state, stateValid, beginAnswer, byteAck, byteSent, stopped, called, Turn, on, call, after, feed, sentIn, events}
+use Rattle.stream.specs.Stream.{State, state, stateValid, beginAnswer, byteAck, byteSent, stopped, called, Turn, on, after, feed, sentIn, events}
 
 -- ---- the first eleven bytes decide, and whether eight or fewer bytes are clocked or more
 

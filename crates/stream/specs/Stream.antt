@@ -3,12 +3,12 @@
 -- device's `step`, asked twice: for the reply at the second address byte, and at STOP for answer and effect.
 -- Assumes nothing.
 use Prim.Native.Nat.{ℕ}
-use mathlib.Core.Bool.{Bool, cond, _&&_}
+use mathlib.Core.Bool.{Bool, true, cond, _&&_}
 use mathlib.Core.List.{List, [], _∷_, map}
 use lib.ListN.{getD}
 use lib.Dec.{eqb}
 use Rattle.bus.specs.declared.Part.{Part}
-use Rattle.bus.specs.Part.{writing, turning, reading, partValid, heard, started, idle, answering}
+use Rattle.bus.specs.Part.{writing, turning, reading, partValid, heard, answering}
 use Rattle.bus.specs.Automaton.{Event, start, byte, again, clock, stop, byted, partAfter, clockByte}
 use Rattle.bus.specs.Ack.{ackOf}
 use Rattle.page.specs.declared.Page.{Page}
@@ -20,6 +20,7 @@ use Rattle.device.specs.declared.Device.{Device}
 use Rattle.device.specs.declared.Done.{Done}
 use Rattle.device.specs.Device.{deviceValid}
 use Rattle.device.specs.Step.{Call, write, read, clocked, done, Result, step}
+use Rattle.records.specs.declared.Seen.{Seen}
 
 pub record State : Type 0 where
   pub part : Part
@@ -31,6 +32,10 @@ state p d = record { part = p; device = d }
 -- any other state gets answer 15, NACK and FFh, and nothing of it changes
 unfoldable pub stateValid : State → Bool
 stateValid s = partValid (s .part) && deviceValid (s .device)
+
+-- what the rules of lent records are told of the pages of a valid state
+abbrev pub eightValid : Seen
+eightValid = record { number = 8; valid = true }
 
 -- ---- the five events
 

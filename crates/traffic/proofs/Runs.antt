@@ -1,13 +1,14 @@
 -- Runs of the streaming device.
 -- Assumes nothing.
 use Prim.Native.Nat.{ℕ}
-use mathlib.Core.Path.{_≡_, refl, sym, ap, ap₂, _∙_}
-use mathlib.Core.Bool.{Bool, true, false, cond, _&&_, and-eq-true-iff}
+use mathlib.Core.Path.{_≡_, refl, ap, ap₂, _∙_}
+use mathlib.Core.Logic.{_⊎_, inl, inr, ⊎-elim}
+use mathlib.Core.Bool.{true, and-eq-true-iff}
 use mathlib.Core.List.{List, [], _∷_, _++_}
 use lib.Dec.{eqb}
 use Rattle.laws.proofs.Branches.{either}
 use Rattle.bus.specs.declared.Part.{Part}
-use Rattle.bus.specs.Part.{partValid, heard, idle}
+use Rattle.bus.specs.Part.{partValid, heard, started, idle}
 use Rattle.bus.specs.Automaton.{Event, start, byte, again, clock, stop, partAfter}
 use Rattle.bus.specs.Orders.{writeOrder, readOrder}
 use Rattle.device.specs.declared.Device.{Device}
@@ -17,11 +18,11 @@ use Rattle.device.specs.Step.{Call, write, read, step}
 use Rattle.history.specs.Run.{next, run}
 use Rattle.history.specs.Valid.{ReachedValid}
 use Rattle.history.proofs.Valid.{valid-after, reached-valid}
-use Rattle.stream.specs.Stream.{State, state, stateValid, partNext, ended, stopped, called, Turn, on, call, deviceNext, after, feed, events}
+use Rattle.stream.specs.Stream.{State, state, stateValid, ended, stopped, called, Turn, on, call, partNext, deviceNext, after, feed, sentIn, events}
 use Rattle.stream.specs.Claims.{Written, Read}
 use Rattle.stream.proofs.Fold.{whole, stays, feed-append, feed-kept}
 use Rattle.stream.proofs.Claims.{written, read-claim, events-append}
-use Rattle.traffic.specs.Runs.{NoFifteen, Item, aWrite, aRead, aCall, turnsOf, callsOf, AsRun}
+use Rattle.traffic.specs.Runs.{NoFifteen, Item, aWrite, aRead, aCall, turnsOf, callsOf, AsRun, Outcome, givenAlong, wholeAlong, SameOutcomes, Reaches, NoStop, callsIn, UntilStop}
 
 -- ---- no 15
 
@@ -47,11 +48,11 @@ device-stays s (call c) v =
     let both = and-eq-true-iff (partValid (s .part)) (deviceValid (s .device)) .0 v in
     rw (both .0) (valid-after (s .device) c (both .1))
 
-part-of : (s : State) → stateValid s ≡ true → partValid (s .part) ≡ true
+pub part-of : (s : State) → stateValid s ≡ true → partValid (s .part) ≡ true
 unfolding stateValid
 part-of s v = and-eq-true-iff (partValid (s .part)) (deviceValid (s .device)) .0 v .0
 
-feed-valid : (ts : List Turn) (s : State) → stateValid s ≡ true → stateValid (feed s ts) ≡ true
+pub feed-valid : (ts : List Turn) (s : State) → stateValid s ≡ true → stateValid (feed s ts) ≡ true
 unfolding feed
 feed-valid [] s v = v
 feed-valid (t ∷ ts) s v = feed-valid ts (after s t) (whole (after s t) (stays s t (part-of s v)) (device-stays s t v))
@@ -91,7 +92,7 @@ module _ (s : State) (v : partValid (s .part) ≡ true) where
       ∙ stop-device (feed s (events (start ∷ readOrder bs b n)))
       ∙ ap (λ (r : Done). r .device) (read-claim s bs b n v .0)
 
-  call-device : (c : Call) → after s (call c) .device ≡ next (s .device) c
+  pub call-device : (c : Call) → after s (call c) .device ≡ next (s .device) c
   unfolding after called
   call-device c = rw v
 
@@ -114,3 +115,94 @@ items (aCall c ∷ l) s v =
 pub as-run : AsRun
 unfolding AsRun
 as-run d l = items l (state idle d) idle-valid
+
+-- ---- what each item gives
+
+-- a write sends nothing
+write-sends : (bs : List ℕ) (s : State) → sentIn s (events (writeOrder bs)) ≡ []
+unfolding sentIn
+write-sends [] s = refl
+write-sends (b ∷ bs) s = write-sends bs (after s (on (byte b)))
+
+outcome : ℕ → List ℕ → Outcome
+outcome a r = record { answer = a; sent = r }
+
+alike : (l : List Item) (s : State) → partValid (s .part) ≡ true → givenAlong s l ≡ wholeAlong (s .device) (callsOf l)
+unfolding outcome feed sentIn step Written Read called after
+alike [] s v = refl
+alike (aWrite bs ∷ l) s v =
+    let ts = events (start ∷ (writeOrder bs ++ (stop ∷ []))) in
+    let same = feed-append s ts [] in
+    ap₂ (λ (x : Outcome) (r : List Outcome). x ∷ r)
+    (ap₂ outcome (ap (λ (r : Done). r .answer) (written s bs v)) (write-sends bs (after s (on start))))
+    (ap (λ (t : State). givenAlong t l) same ∙ alike l (feed s ts) (feed-kept ts s v) ∙ ap (λ (d : Device). wholeAlong d (callsOf l)) (write-device s v bs))
+alike (aRead bs b n ∷ l) s v =
+    let ts = events (start ∷ (readOrder bs b n ++ (stop ∷ []))) in
+    let same = feed-append s ts [] in
+    ap₂ (λ (x : Outcome) (r : List Outcome). x ∷ r)
+    (ap₂ outcome (ap (λ (r : Done). r .answer) (read-claim s bs b n v .0)) (read-claim s bs b n v .1))
+    (ap (λ (t : State). givenAlong t l) same ∙ alike l (feed s ts) (feed-kept ts s v) ∙ ap (λ (d : Device). wholeAlong d (callsOf l)) (read-device s v bs b n))
+alike (aCall c ∷ l) s v =
+    ap₂ (λ (x : Outcome) (r : List Outcome). x ∷ r)
+    (rw v)
+    (alike l (after s (call c)) (stays s (call c) v) ∙ ap (λ (d : Device). wholeAlong d (callsOf l)) (call-device s v c))
+
+pub same-outcomes : SameOutcomes
+unfolding SameOutcomes
+same-outcomes d l = alike l (state idle d) idle-valid
+
+-- ---- every run
+
+-- what a turn makes of the device: nothing, or what one whole call makes of it
+Moves : State → Turn → Type 0
+Moves s t = (after s t .device ≡ s .device) ⊎ ((c : Call) × (after s t .device ≡ next (s .device) c))
+
+ended-moves : (d : Device) (p : Part) → (ended d p .device ≡ d) ⊎ ((c : Call) × (ended d p .device ≡ next d c))
+unfolding ended
+ended-moves d p =
+    either (eqb (p .phase) 1) (λ y. inr (write (heard p), rw y))
+    (λ n. either (eqb (p .phase) 3) (λ y. inr (read (heard p) (p .clocked), rw (n, y))) (λ m. inl (rw (n, m))))
+
+moves : (s : State) (t : Turn) → Moves s t
+unfolding Moves after deviceNext stopped called
+moves s (on start) = inl refl
+moves s (on (byte b)) = inl refl
+moves s (on again) = inl refl
+moves s (on clock) = inl refl
+moves s (on stop) = either (stateValid s) (λ y. rw y (ended-moves (s .device) (s .part))) (λ n. inl (rw n))
+moves s (call c) = either (partValid (s .part)) (λ y. inr (c, rw y)) (λ n. inl (rw n))
+
+turned : (ts : List Turn) (s : State) → (cs : List Call) × (feed s ts .device ≡ run (s .device) cs)
+unfolding feed run Moves
+turned [] s = ([], refl)
+turned (t ∷ ts) s =
+    let rest = turned ts (after s t) in
+    ⊎-elim
+    (λ e. (rest .0, rest .1 ∙ ap (λ (d : Device). run d (rest .0)) e))
+    (λ m. (m .0 ∷ rest .0, rest .1 ∙ ap (λ (d : Device). run d (rest .0)) (m .1)))
+    (moves s t)
+
+pub reaches : Reaches
+unfolding Reaches
+reaches n ts = turned ts (state idle (powerOn n))
+
+-- ---- until STOP
+
+by-calls : (ts : List Turn) (s : State) → partValid (s .part) ≡ true → NoStop ts → feed s ts .device ≡ run (s .device) (callsIn ts)
+unfolding feed run after deviceNext
+by-calls [] s v h = refl
+by-calls (on start ∷ ts) s v h = by-calls ts (after s (on start)) (stays s (on start) v) h
+by-calls (on (byte b) ∷ ts) s v h = by-calls ts (after s (on (byte b))) (stays s (on (byte b)) v) h
+by-calls (on again ∷ ts) s v h = by-calls ts (after s (on again)) (stays s (on again) v) h
+by-calls (on clock ∷ ts) s v h = by-calls ts (after s (on clock)) (stays s (on clock) v) h
+by-calls (on stop ∷ ts) s v h = absurd h
+by-calls (call c ∷ ts) s v h =
+    by-calls ts (after s (call c)) (stays s (call c) v) h ∙ ap (λ (d : Device). run d (callsIn ts)) (call-device s v c)
+
+start-drops : (s : State) → stateValid s ≡ true → after s (on start) ≡ state started (s .device)
+unfolding after deviceNext partNext partAfter
+start-drops s v = rw v
+
+pub until-stop : UntilStop
+unfolding UntilStop
+until-stop s ts v h = (by-calls ts s (part-of s v) h, start-drops (feed s ts) (feed-valid ts s v))

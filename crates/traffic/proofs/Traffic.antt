@@ -2,14 +2,13 @@
 -- Assumes nothing.
 use Prim.Native.Nat.{ℕ}
 use mathlib.Core.Path.{_≡_, refl, sym, ap, _∙_}
-use mathlib.Core.Bool.{Bool, true, false, cond, _&&_, and-eq-true-iff}
+use mathlib.Core.Bool.{and-eq-true-iff}
 use mathlib.Core.List.{List, [], _∷_, _++_}
 use lib.ListN.{length}
-use lib.Dec.{eqb}
 use Rattle.laws.proofs.Branches.{either}
 use Rattle.bus.specs.Part.{partValid}
 use Rattle.unpaged.specs.declared.Unpaged.{Unpaged}
-use Rattle.unpaged.specs.Unpaged.{everyPage, refused}
+use Rattle.unpaged.specs.Unpaged.{refused}
 use Rattle.writes.specs.Answers.{dataAnswer, lengthAnswer, codeAnswer, addressedAnswer, writeAnswer}
 use Rattle.reads.specs.Answers.{headerAnswer, readAnswer}
 use Rattle.device.specs.declared.Device.{Device}
@@ -20,10 +19,10 @@ use Rattle.history.specs.Run.{next, answer}
 use Rattle.history.proofs.Outcomes.{done-next, refused-next, by-answer}
 use Rattle.history.proofs.Runs.{same-length}
 use Rattle.history.proofs.Valid.{valid-after}
-use Rattle.stream.specs.Stream.{State, stateValid, stopped, feed}
+use Rattle.stream.specs.Stream.{stateValid}
 use Rattle.stream.specs.Between.{Mixed, put, aside, puts, later}
 use Rattle.stream.proofs.Fold.{Stays, Steady, fifteen-left, write-between, read-between, sent-between, first-between, second-between}
-use Rattle.traffic.specs.Traffic.{Between, Others, writeTurns, readTurns, atSecond, WriteBetween, WritesBetween, ReadBetween, ReadsBetween, AcksBetween}
+use Rattle.traffic.specs.Traffic.{Between, Others, atSecond, WritesBetween, ReadsBetween, AcksBetween}
 
 -- ---- every call leaves a valid state valid, and another as it was
 

@@ -1,2 +1,4 @@
 pub mod Traffic
 pub mod Runs
+pub mod Buffers
+pub mod Occurs

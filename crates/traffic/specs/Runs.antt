@@ -4,14 +4,14 @@ use Prim.Native.Nat.{ℕ}
 use mathlib.Core.Path.{_≡_}
 use mathlib.Core.Bool.{true}
 use mathlib.Core.List.{List, [], _∷_, _++_}
-use Rattle.bus.specs.Part.{idle}
-use Rattle.bus.specs.Automaton.{start, stop}
+use Rattle.bus.specs.Part.{started, idle}
+use Rattle.bus.specs.Automaton.{start, byte, again, clock, stop}
 use Rattle.bus.specs.Orders.{writeOrder, readOrder}
 use Rattle.device.specs.declared.Device.{Device}
 use Rattle.device.specs.Device.{powerOn, supported}
-use Rattle.device.specs.Step.{Call, write, read}
-use Rattle.stream.specs.Stream.{State, state, stateValid, Turn, on, call, feed, events}
-use Rattle.history.specs.Run.{run}
+use Rattle.device.specs.Step.{Call, write, read, step}
+use Rattle.stream.specs.Stream.{State, state, stateValid, stopped, called, Turn, on, call, after, feed, sentIn, events}
+use Rattle.history.specs.Run.{next, answer, run, reached}
 
 -- No event and no call of a run from power-on gets 15, orderly or not.
 unfoldable pub NoFifteen : Type 0
@@ -38,3 +38,52 @@ callsOf (aCall c ∷ l) = c ∷ callsOf l
 -- A run of these is a run of whole calls, so that all guarantees of such runs (crate history) hold of the streaming device.
 unfoldable pub AsRun : Type 0
 AsRun = (d : Device) (l : List Item) → feed (state idle d) (turnsOf l) .device ≡ run d (callsOf l)
+
+-- What each of them gives, answer and bytes sent, is what the whole call gives: the energy replies of such a run are those of the whole device.
+pub record Outcome : Type 0 where
+  pub answer : ℕ
+  pub sent : List ℕ
+
+abbrev pub given : State → Item → Outcome
+given s (aWrite bs) = record { answer = stopped (feed s (events (start ∷ writeOrder bs))) .answer; sent = sentIn s (events (start ∷ writeOrder bs)) }
+given s (aRead bs b n) = record {
+  answer = stopped (feed s (events (start ∷ readOrder bs b n))) .answer;
+  sent = sentIn s (events (start ∷ readOrder bs b n));
+}
+given s (aCall c) = record { answer = called s c .done .answer; sent = called s c .reply }
+
+abbrev pub givenAlong : State → List Item → List Outcome
+givenAlong s [] = []
+givenAlong s (i ∷ l) = given s i ∷ givenAlong (feed s (turnsOf (i ∷ []))) l
+
+abbrev pub wholeAlong : Device → List Call → List Outcome
+wholeAlong d [] = []
+wholeAlong d (c ∷ cs) = record { answer = answer d c; sent = step d c .reply } ∷ wholeAlong (next d c) cs
+
+unfoldable pub SameOutcomes : Type 0
+SameOutcomes = (d : Device) (l : List Item) → givenAlong (state idle d) l ≡ wholeAlong d (callsOf l)
+
+-- ---- every run, orderly or not, with anything between: its device is one that whole calls reach, so that what holds of each state of a run
+-- of whole calls (crate history) holds of it
+unfoldable pub Reaches : Type 0
+Reaches = (n : ℕ) (ts : List Turn) → (cs : List Call) × (feed (state idle (powerOn n)) ts .device ≡ reached n cs)
+
+-- ---- until STOP nothing but the other calls changes the device; a START then drops what was under way, whatever that was
+abbrev pub NoStop : List Turn → Type 0
+NoStop [] = Unit
+NoStop (on start ∷ ts) = NoStop ts
+NoStop (on (byte b) ∷ ts) = NoStop ts
+NoStop (on again ∷ ts) = NoStop ts
+NoStop (on clock ∷ ts) = NoStop ts
+NoStop (on stop ∷ ts) = ⊥
+NoStop (call c ∷ ts) = NoStop ts
+
+abbrev pub callsIn : List Turn → List Call
+callsIn [] = []
+callsIn (on e ∷ ts) = callsIn ts
+callsIn (call c ∷ ts) = c ∷ callsIn ts
+
+unfoldable pub UntilStop : Type 0
+UntilStop =
+    (s : State) (ts : List Turn) → stateValid s ≡ true → NoStop ts
+    → (feed s ts .device ≡ run (s .device) (callsIn ts)) × (after (feed s ts) (on start) ≡ state started (feed s ts .device))

@@ -9,47 +9,10 @@ use reference::device::{Page, ALL_PAGES, IOUT, TEMPERATURE, VIN, VOUT};
 use reference::frame::{self, Shelf};
 use reference::linear11;
 use reference::pec::pec;
+use reference::random::Random;
 use std::collections::VecDeque;
 use std::io::{self, BufWriter, Write};
 use std::process::ExitCode;
-
-/// SplitMix64.
-struct Random(u64);
-
-impl Random {
-    fn next(&mut self) -> u64 {
-        self.0 = self.0.wrapping_add(0x9E37_79B9_7F4A_7C15);
-        let mut value = self.0;
-        value = (value ^ (value >> 30)).wrapping_mul(0xBF58_476D_1CE4_E5B9);
-        value = (value ^ (value >> 27)).wrapping_mul(0x94D0_49BB_1331_11EB);
-        value ^ (value >> 31)
-    }
-
-    /// A number from 0 to `bound` - 1.
-    fn below(&mut self, bound: usize) -> usize {
-        ((self.next() >> 32) as usize * bound) >> 32
-    }
-
-    fn percent(&mut self, chance: usize) -> bool {
-        self.below(100) < chance
-    }
-
-    fn byte(&mut self) -> u8 {
-        self.next() as u8
-    }
-
-    fn word(&mut self) -> u16 {
-        self.next() as u16
-    }
-
-    fn bytes(&mut self, count: usize) -> Vec<u8> {
-        (0..count).map(|_| self.byte()).collect()
-    }
-
-    fn pick<T: Copy>(&mut self, choices: &[T]) -> T {
-        choices[self.below(choices.len())]
-    }
-}
 
 /// Words at the ends of the Linear11 range and around zero.
 const ENDS: [u16; 16] = [
@@ -95,7 +58,7 @@ struct Generator {
 impl Generator {
     fn new(seed: u64, model: Shelf) -> Generator {
         Generator {
-            random: Random(seed),
+            random: Random::new(seed),
             model,
             pending: VecDeque::new(),
         }

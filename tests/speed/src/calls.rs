@@ -99,7 +99,7 @@ pub const ONE_PAGE: u8 = 3;
 pub const EVERY_PAGE: u8 = 0xFF;
 
 /// A device as it stands in use: every page on and measured, within its limits; then PAGE is written.
-fn supplying(selected: u8) -> Device {
+pub fn supplying(selected: u8) -> Device {
     let mut device = Device::power_on();
     for page in 0..8 {
         device.write(&[WRITE_ADDRESS, 0x00, page]);

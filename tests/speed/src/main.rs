@@ -1,4 +1,4 @@
-//! `speed` prints three tables of nanoseconds a call; `speed BENCH REFERENCE FILE` also one of frames a second, for two programs on a frame file.
+//! `speed` prints tables of nanoseconds a call; `speed BENCH REFERENCE FILE` also one of frames a second, for two programs on a frame file.
 //! Figures are best / median of many repetitions; a ratio over 1 says that the proved program is slower.
 
 mod calls;
@@ -6,6 +6,7 @@ mod frames;
 mod lent;
 mod race;
 mod routines;
+mod stream;
 
 fn main() {
     println!("Best / median of {} batches.\n", race::REPETITIONS);
@@ -32,6 +33,9 @@ fn main() {
     lent::rows(96);
     lent::sample(1);
     lent::sample(48);
+
+    println!();
+    stream::tables();
 
     let arguments: Vec<String> = std::env::args().skip(1).collect();
     if let [bench, reference, file] = &arguments[..] {

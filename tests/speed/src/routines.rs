@@ -1,5 +1,6 @@
 //! The straightforward Rust routines: the second program's methods behind the library's signatures, the state by value in and
-//! back, and the same by `&mut`. None is inlined into the loop that times it, as the library's functions are not.
+//! back, and the same by `&mut`; and the steps of a streaming device written for this comparison. None is inlined into the loop that times
+//! it, as the library's functions are not.
 
 use reference::device::Device;
 use reference::pec;
@@ -151,5 +152,193 @@ pub mod in_place {
     #[inline(never)]
     pub fn take(totalizer: &mut Totalizer, reply: &[u8]) -> u8 {
         totalizer.take(reply)
+    }
+}
+
+/// The streaming device of the second program.
+pub mod second {
+    use reference::stream::Stream;
+
+    #[inline(never)]
+    pub fn start(stream: &mut Stream) -> u8 {
+        stream.start()
+    }
+
+    #[inline(never)]
+    pub fn byte(stream: &mut Stream, byte: u8) -> u8 {
+        u8::from(stream.byte(byte))
+    }
+
+    #[inline(never)]
+    pub fn repeated_start(stream: &mut Stream) -> u8 {
+        stream.repeated_start()
+    }
+
+    #[inline(never)]
+    pub fn clock(stream: &mut Stream) -> u8 {
+        stream.clock()
+    }
+
+    #[inline(never)]
+    pub fn stop(stream: &mut Stream) -> u8 {
+        stream.stop()
+    }
+
+    #[inline(never)]
+    pub fn measure(stream: &mut Stream, page: u8, quantity: u8, word: u16) -> u8 {
+        stream.measure(page, quantity, word)
+    }
+
+    #[inline(never)]
+    pub fn sample(stream: &mut Stream, sample: u16) -> u8 {
+        stream.sample(sample)
+    }
+
+    #[inline(never)]
+    pub fn tick(stream: &mut Stream) -> u8 {
+        stream.tick()
+    }
+
+    #[inline(never)]
+    pub fn alert_response(stream: &mut Stream, reply: &mut [u8]) -> u8 {
+        stream.alert_response(reply)
+    }
+}
+
+/// The steps that leave the device alone, on structs: the numbers that the library's buffer has, kept as fields, and its test for answer 15.
+pub mod plain {
+    use conformance::buffer::{Part, BROKEN, READING, TURNING, WRITING};
+    use conformance::library::stream::{ACK, NACK};
+    use conformance::library::{Device, Page, Unpaged};
+
+    pub struct Plain {
+        pub part: Part,
+        pub device: Device,
+    }
+
+    fn unpaged_valid(unpaged: &Unpaged) -> bool {
+        matches!(unpaged.page, 0..=7 | 0xFF)
+            && matches!(unpaged.protect, 0x00 | 0x20 | 0x40 | 0x80)
+            && unpaged.energy.accumulator <= 0x7FFF
+            && unpaged.energy.rollover <= 0xFF
+            && unpaged.energy.count <= 0xFF_FFFF
+    }
+
+    fn page_valid(page: &Page) -> bool {
+        const IOUT_OC: usize = 1;
+        matches!(page.operation, 0x00 | 0x40 | 0x80)
+            && matches!(page.responses[IOUT_OC], 0x00 | 0xC0)
+            && page.machines[IOUT_OC] == 0
+            && page.machines.iter().all(|&machine| machine <= 64)
+    }
+
+    /// Data bytes of a code; none for a code that is not there.
+    fn data(code: u8) -> Option<u8> {
+        match code {
+            0x03 => Some(0),
+            0x00
+            | 0x01
+            | 0x10
+            | 0x19
+            | 0x20
+            | 0x41
+            | 0x47
+            | 0x50
+            | 0x54
+            | 0x56
+            | 0x5A
+            | 0x78
+            | 0x7A..=0x7E
+            | 0x98 => Some(1),
+            0x21
+            | 0x40
+            | 0x42
+            | 0x46
+            | 0x4A
+            | 0x4F
+            | 0x51
+            | 0x53
+            | 0x55
+            | 0x57..=0x59
+            | 0x79
+            | 0x88
+            | 0x8B..=0x8D => Some(2),
+            0x86 => Some(7),
+            _ => None,
+        }
+    }
+
+    impl Plain {
+        fn valid(&self) -> bool {
+            self.part.valid()
+                && unpaged_valid(&self.device.unpaged)
+                && self.device.pages.iter().all(page_valid)
+        }
+
+        /// Whether the next byte of a write gets ACK.
+        fn expected(&self, byte: u8) -> bool {
+            match *self.part.kept() {
+                [] => byte == 0xC0,
+                [0xC0] => data(byte).is_some(),
+                [0xC0, code, ..] => data(code).is_some_and(|data| self.part.count <= 2 + data),
+                _ => false,
+            }
+        }
+    }
+
+    #[inline(never)]
+    pub fn start(plain: &mut Plain) -> u8 {
+        if !plain.valid() {
+            return 15;
+        }
+        let part = &mut plain.part;
+        (part.phase, part.count, part.clocked) = (WRITING, 0, 0);
+        0
+    }
+
+    /// A byte before a repeated START; the byte behind it, which makes the reply, is left out here.
+    #[inline(never)]
+    pub fn byte(plain: &mut Plain, byte: u8) -> u8 {
+        if !plain.valid() {
+            return NACK;
+        }
+        if plain.part.phase != WRITING {
+            plain.part.phase = BROKEN;
+            return NACK;
+        }
+        let acked = plain.expected(byte);
+        plain.part.keep(byte);
+        if acked {
+            ACK
+        } else {
+            NACK
+        }
+    }
+
+    #[inline(never)]
+    pub fn repeated_start(plain: &mut Plain) -> u8 {
+        if !plain.valid() {
+            return 15;
+        }
+        plain.part.phase = match plain.part.phase {
+            WRITING => TURNING,
+            _ => BROKEN,
+        };
+        0
+    }
+
+    #[inline(never)]
+    pub fn clock(plain: &mut Plain) -> u8 {
+        if !plain.valid() {
+            return 0xFF;
+        }
+        let part = &mut plain.part;
+        if part.phase != READING {
+            part.phase = BROKEN;
+            return 0xFF;
+        }
+        let byte = part.reply.get(usize::from(part.clocked)).copied();
+        part.clocked = (part.clocked + 1).min(9);
+        byte.unwrap_or(0xFF)
     }
 }

@@ -1,23 +1,29 @@
 -- `buffer::calls::tick` meets its contract.
 -- Assumes nothing.
-use Rattle.buffer.proofs.Turns.{call-fed}
+use Rattle.buffer.proofs.Held.{was-ready, was-not, was-held, call-refused, call-taken}
 use borrow.Author.Needs.{needs}
 use Rattle.buffer.proofs.calls.tick.Statement.{statement}
 use Rattle.buffer.proofs.calls.tick.Tie as tie
 
-tick-turn-requires : tie.Need-tick-turn-requires
-tick-turn-requires c κs = search needs
-
-put-device-requires : tie.Need-put-device-requires
-put-device-requires c κs = search needs
+ready-requires : tie.Need-ready-requires
+ready-requires c κs = search needs
 
 same-length : tie.Need-same-length
 same-length c = search needs
 
 returns : tie.Need-returns
-returns c =
-    let found = c .before .before .before .before .before .tick-turn .ensures in
-    (found .what, call-fed _ _ _ _ found (c .before .before .put-device .ensures))
+returns c = call-refused _ (was-not _ _ (c .before .ready .ensures) (c .if1 .taken)) _
+
+ticked-requires : tie.Need-ticked-requires
+ticked-requires c κs = was-held _ _ (c .before .before .ready .ensures) (c .before .if1 .left)
+
+same-length-2 : tie.Need-same-length-2
+same-length-2 c = search needs
+
+returns-2 : tie.Need-returns-2
+returns-2 c =
+    let r = c .before .before .ticked .ensures in call-taken _ (was-ready _ _ (c .before .before .before .before .before .ready .ensures) (c .before .before .before .before .if1 .left)) _ _ _ (r .0) (r .1)
 
 pub tick-spec : {M : Type 1} → statement M
-tick-spec = tie.close (tie.spec tick-turn-requires put-device-requires same-length returns)
+tick-spec =
+    tie.close (tie.spec ready-requires same-length returns ticked-requires same-length-2 returns-2)

@@ -1,6 +1,5 @@
 -- `buffer::leaf::put_long` meets its contract.
 -- Assumes nothing.
-use Rattle.buffer.specs.Form.{storeWord}
 use borrow.Author.Needs.{needs}
 use Rattle.buffer.proofs.leaf.put_long.Statement.{statement}
 use Rattle.buffer.proofs.leaf.put_long.Tie as tie

@@ -1,6 +1,6 @@
 -- `buffer::steps::holds_valid` meets its contract.
 -- Assumes nothing.
-use Rattle.buffer.proofs.Turns.{valid-made}
+use Rattle.buffer.proofs.Held.{valid-made}
 use mathlib.Core.Path.{ap, _∙_}
 use Rattle.bus.specs.Part.{partValid}
 use Rattle.unpaged.specs.Unpaged.{unpagedValid}
@@ -20,14 +20,14 @@ part-valid-requires c κs = search needs
 unpaged-valid-requires : tie.Need-unpaged-valid-requires
 unpaged-valid-requires c κs = search needs
 
-pages-valid-requires : tie.Need-pages-valid-requires
-pages-valid-requires c κs = search needs
+all-valid-requires : tie.Need-all-valid-requires
+all-valid-requires c κs = search needs
 
 returns : tie.Need-returns
 returns c =
     valid-made _ _ _ _ (c .before .before .«part-valid» .ensures ∙ ap partValid (c .before .before .before .before .load-part .ensures))
     (c .before .«unpaged-valid» .ensures ∙ ap (unpagedValid 8) (c .before .before .before .load-unpaged .ensures))
-    (c .«pages-valid» .ensures)
+    (c .«all-valid» .ensures)
 
 pub holds-valid-spec : {M : Type 1} → statement M
 holds-valid-spec =
@@ -37,5 +37,5 @@ holds-valid-spec =
     load-unpaged-requires
     part-valid-requires
     unpaged-valid-requires
-    pages-valid-requires
+    all-valid-requires
     returns)

@@ -1,6 +1,6 @@
 -- `buffer::steps::ready` meets its contract.
 -- Assumes nothing.
-use Rattle.buffer.proofs.Turns.{ready-made, ready-not}
+use Rattle.buffer.proofs.Held.{ready-made, ready-not}
 use native.Mathlib.Omega.{arith}
 use borrow.Author.Needs.{needs}
 use Rattle.buffer.proofs.steps.ready.Statement.{statement}

@@ -1,23 +1,48 @@
 -- `buffer::steps::start` meets its contract.
 -- Assumes nothing.
-use Rattle.buffer.proofs.Turns.{fed}
+use mathlib.Core.Path.{refl}
+use native.Mathlib.Omega.{arith}
+use Rattle.bus.specs.Automaton.{start}
+use Rattle.buffer.specs.Buffer.{gives, refuses}
+use Rattle.buffer.proofs.Held.{was-ready, was-not, was-held, event-refused, event-taken}
+use Rattle.buffer.proofs.Ending.{start-fed}
 use borrow.Author.Needs.{needs}
 use Rattle.buffer.proofs.steps.start.Statement.{statement}
 use Rattle.buffer.proofs.steps.start.Tie as tie
 
-start-turn-requires : tie.Need-start-turn-requires
-start-turn-requires c κs = search needs
-
-put-back-requires : tie.Need-put-back-requires
-put-back-requires c κs = search needs
+ready-requires : tie.Need-ready-requires
+ready-requires c κs = search needs
 
 same-length : tie.Need-same-length
 same-length c = search needs
 
 returns : tie.Need-returns
-returns c =
-    let found = c .before .before .before .before .start-turn .ensures in
-    (found .what, fed _ _ _ _ found (c .before .before .put-back .ensures))
+unfolding refuses
+returns c = event-refused _ (was-not _ _ (c .before .ready .ensures) (c .if1 .taken)) start
+
+start-requires : tie.Need-start-requires
+start-requires c κs = search needs
+
+save-part-requires : tie.Need-save-part-requires
+save-part-requires c κs =
+    let h = was-held _ _ (c .before .before .before .ready .ensures) (c .before .before .if1 .left) in let l = h .long in omega arith
+
+same-length-2 : tie.Need-same-length-2
+same-length-2 c = search needs
+
+returns-2 : tie.Need-returns-2
+unfolding gives
+returns-2 c =
+    event-taken _ (was-ready _ _ (c .before .before .before .before .before .before .ready .ensures) (c .before .before .before .before .before .if1 .left)) start 0 _ refl (start-fed _ _ _ (c .before .before .save-part .ensures) (c .before .before .before .before .start .ensures))
 
 pub start-spec : {M : Type 1} → statement M
-start-spec = tie.close (tie.spec start-turn-requires put-back-requires same-length returns)
+start-spec =
+    tie.close
+    (tie.spec
+    ready-requires
+    same-length
+    returns
+    start-requires
+    save-part-requires
+    same-length-2
+    returns-2)

@@ -1,18 +1,18 @@
 -- `bus::ack::room_behind` meets its contract.
 -- Assumes nothing.
-use Rattle.bus.specs.Ack.{roomBehind}
+use Rattle.bus.specs.Ack.{known, roomBehind}
 use borrow.Author.Needs.{needs}
 use Rattle.bus.proofs.ack.room_behind.Statement.{statement}
 use Rattle.bus.proofs.ack.room_behind.Tie as tie
 
-shared-slice-read-code : tie.Need-shared-slice-read-code
-shared-slice-read-code c = search needs
+shared-slice-read-lookup : tie.Need-shared-slice-read-lookup
+shared-slice-read-lookup c = search needs
 
 lookup-requires : tie.Need-lookup-requires
 lookup-requires c κs = search needs
 
-known-requires : tie.Need-known-requires
-known-requires c κs = search needs
+listed-requires : tie.Need-listed-requires
+listed-requires c κs = search needs
 
 cast-result : tie.Need-cast-result
 cast-result c = search needs
@@ -21,10 +21,16 @@ add-result : tie.Need-add-result
 add-result c = search needs
 
 returns : tie.Need-returns
-unfolding roomBehind
+unfolding known roomBehind
 returns c = cc
 
 pub room-behind-spec : {M : Type 1} → statement M
 room-behind-spec =
     tie.close
-    (tie.spec shared-slice-read-code lookup-requires known-requires cast-result add-result returns)
+    (tie.spec
+    shared-slice-read-lookup
+    lookup-requires
+    listed-requires
+    cast-result
+    add-result
+    returns)
