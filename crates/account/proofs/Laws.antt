@@ -9,7 +9,6 @@ use lib.Dec.{ltb}
 use borrow.Author.Tests.{lt-ltb, le-ltb, ltb-true, ltb-false}
 use Rattle.laws.specs.Lists.{Bytes}
 use Rattle.laws.proofs.Branches.{either}
-use Rattle.laws.proofs.Lists.{byte-lt}
 use Rattle.account.specs.declared.Account.{Account}
 use Rattle.account.specs.Account.{accountValid, added, sampled, energyReading, einBytes, accountOf}
 
@@ -92,14 +91,3 @@ reply-back a rest v =
 pub read-back : (a : Account) → accountValid a ≡ true → accountOf (einBytes a) ≡ a
 unfolding einBytes
 read-back a v = reply-back a [] v
-
--- of the account that bytes carry, only the accumulator can be out of range
-pub carried-valid : (s : List ℕ) → Bytes s → accountOf s .accumulator < 32768 → accountValid (accountOf s) ≡ true
-unfolding accountOf
-carried-valid s b h =
-    range-valid (accountOf s)
-    (record {
-      accumulator-lt = h;
-      rollover-lt = byte-lt s b 3;
-      count-lt = omega (arith, byte-lt s b 4, byte-lt s b 5, byte-lt s b 6);
-    })

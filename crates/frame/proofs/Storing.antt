@@ -7,7 +7,7 @@ use mathlib.Core.List.{List, [], _∷_, _++_}
 use native.Mathlib.Omega.{arith}
 use native.Mathlib.Nat.{not-suc-le-zero, le-of-suc-le-suc}
 use native.Mathlib.Numerals.{add-one}
-use lib.ListN.{length, getD, take, drop, set, length-append}
+use lib.ListN.{length, getD, take, drop, set}
 use lib.Seq.{sets, sets-eq, take-suc, length-take-le, take-at}
 use Rattle.laws.specs.Lists.{allOf}
 
@@ -37,9 +37,6 @@ module _ {A : Type 0} where
   all-at p (x ∷ l) d zero h e = and-eq-true-iff (p x) (allOf p l) .0 e .0
   all-at p (x ∷ l) d (suc i) h e = all-at p l d i (le-of-suc-le-suc h) (and-eq-true-iff (p x) (allOf p l) .0 e .1)
 
-  -- a part at the front that came back with its length: it fits, and is read back
-  pub front-fits : (x r : List A) (k : ℕ) → length x ≡ k → k ≤ length (x ++ drop k r)
-  front-fits x r k e = omega (arith, length-append x (drop k r))
-
+  -- a part at the front that came back with its length is read back
   pub front-back : (x r : List A) (k : ℕ) → length x ≡ k → take k (x ++ drop k r) ≡ x
   front-back x r k e = take-at x (drop k r) k e

@@ -1,14 +1,13 @@
--- Loops over every place: one that changes each element, and one that compares two lists place by place.
+-- A loop that changes each element of a list.
 -- Assumes nothing.
 use Prim.Native.Nat.{ℕ, zero, suc, _+_, _<_, _≤_}
-use mathlib.Core.Path.{_≡_, refl, sym, ap, _∙_}
-use mathlib.Core.Bool.{Bool, true, false, cond, _||_}
+use mathlib.Core.Path.{_≡_, refl, ap, _∙_}
+use mathlib.Core.Bool.{Bool, true}
 use mathlib.Core.List.{List, [], _∷_, map}
 use native.Mathlib.Nat.{not-suc-le-zero, le-of-suc-le-suc}
 use native.Mathlib.Numerals.{add-one}
-use lib.ListN.{length, getD, drop, set, drop-of-length-le}
-use lib.Seq.{drop-cons}
-use Rattle.laws.specs.Lists.{mapAt, anyPair}
+use lib.ListN.{length, getD, set}
+use Rattle.laws.specs.Lists.{mapAt}
 
 -- A loop that changes each element of a list by f: after i turns the first i are changed.
 abbrev pub upto : {A : Type 0} → (A → A) → ℕ → List A → List A
@@ -33,30 +32,6 @@ module _ {A : Type 0} (f : A → A) (d : A) where
       whole [] (suc i) h = refl
       whole (x ∷ l) zero h = absurd (not-suc-le-zero h)
       whole (x ∷ l) (suc i) h = ap (λ (t : List A). f x ∷ t) (whole l i (le-of-suc-le-suc h))
-
-  pub upto-length : (l m : List A) (i : ℕ) → m ≡ upto f i l → length m ≡ length l
-  upto-length l m i inv = ap length inv ∙ same l i
-    where
-      same : (l : List A) (i : ℕ) → length (upto f i l) ≡ length l
-      same l zero = refl
-      same [] (suc i) = refl
-      same (x ∷ l) (suc i) = ap suc (same l i)
-
--- A loop that leaves at the first place where two lists pass the test: none before it did.
-module _ {A : Type 0} (p : A → A → Bool) (d : A) (l m : List A) where
-  pub pair-here : (r : Bool) (i : ℕ) → i < length l → i < length m → r ≡ p (getD l i d) (getD m i d) → r ≡ true
-      → anyPair p (drop i l) (drop i m) ≡ anyPair p l m → true ≡ anyPair p l m
-  pair-here r i h k e t inv =
-      sym (ap (λ (b : Bool). b || anyPair p (drop (suc i) l) (drop (suc i) m)) (sym e ∙ t)) ∙ (rw (drop-cons l i d h, drop-cons m i d k) at inv)
-
-  pub pair-step : (r : Bool) (i : ℕ) → i < length l → i < length m → r ≡ p (getD l i d) (getD m i d) → r ≡ false
-      → anyPair p (drop i l) (drop i m) ≡ anyPair p l m → anyPair p (drop (i + 1) l) (drop (i + 1) m) ≡ anyPair p l m
-  pair-step r i h k e t inv =
-      rw add-one
-      (sym (ap (λ (b : Bool). b || anyPair p (drop (suc i) l) (drop (suc i) m)) (sym e ∙ t)) ∙ (rw (drop-cons l i d h, drop-cons m i d k) at inv))
-
-  pub pair-end : (i : ℕ) → length l ≤ i → anyPair p (drop i l) (drop i m) ≡ anyPair p l m → false ≡ anyPair p l m
-  pair-end i h inv = rw (drop-of-length-le l h) at inv
 
 -- where every place passes, each element is changed
 pub map-every : {A : Type 0} (t : ℕ → Bool) (f : A → A) (l : List A) → ((i : ℕ) → t i ≡ true) → mapAt t f l ≡ map f l

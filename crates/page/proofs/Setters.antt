@@ -1,6 +1,6 @@
--- What a change of a page leaves: its status, its trip, and that it is valid.
+-- What a clearing leaves of a page, and that every change leaves a valid page valid.
 -- Assumes nothing.
-use Prim.Native.Nat.{ℕ, zero, suc, _%_, _<_, _≤_}
+use Prim.Native.Nat.{ℕ, zero, suc, _%_, _<_}
 use mathlib.Core.Path.{_≡_, refl, sym, _∙_}
 use mathlib.Core.Bool.{Bool, true, false, not, _&&_, _||_, and-eq-true-iff, false≢true}
 use mathlib.Core.List.{List}
@@ -9,7 +9,7 @@ use lib.Dec.{eqb}
 use lib.ListN.{getD}
 use borrow.Author.Tests.{eqb-true}
 use Rattle.laws.specs.Bits.{bit}
-use Rattle.laws.proofs.Bits.{without-bit, zero-bit}
+use Rattle.laws.proofs.Bits.{without-bit}
 use Rattle.laws.proofs.Branches.{either}
 use Rattle.laws.proofs.Lists.{set-cases}
 use Rattle.retry.specs.Response.{holdsAtOnce, waitsFirst}
@@ -17,55 +17,14 @@ use Rattle.retry.specs.Machines.{allValid}
 use Rattle.retry.proofs.Side.{rested-valid, all-called-valid, all-ticked-valid}
 use Rattle.cause.specs.Causes.{causes, warnings}
 use Rattle.page.specs.declared.Page.{Page}
-use Rattle.page.specs.Page.{resting, powerOnPage, noPage}
+use Rattle.page.specs.Page.{resting, powerOnPage}
 use Rattle.page.specs.Causes.{presentCauses, moved, settled, ticked}
 use Rattle.page.specs.Latching.{statusBit}
 use Rattle.page.specs.Settings.{validOperation, validResponse, pageValid, switchesOff, setOperation, setVoutCommand, setLimit, setResponse, setMeasurement, clearBits}
 use Rattle.page.proofs.Written.{valid-response, page-valid}
 
--- the settings keep the status and the trip; only OPERATION 00h and 40h untrip
+-- a clearing takes the bits of the masks and does not untrip
 module _ (p : Page) where
-  pub operation-status : (x : ℕ) → setOperation p x .status ≡ p .status
-  unfolding setOperation
-  operation-status x = refl
-
-  pub operation-trip : (x : ℕ) → setOperation p x .tripped ≡ (p .tripped && not (switchesOff x))
-  unfolding setOperation
-  operation-trip x = refl
-
-  pub command-status : (w : ℕ) → setVoutCommand p w .status ≡ p .status
-  unfolding setVoutCommand
-  command-status w = refl
-
-  pub command-trip : (w : ℕ) → setVoutCommand p w .tripped ≡ p .tripped
-  unfolding setVoutCommand
-  command-trip w = refl
-
-  pub limit-status : (k w : ℕ) → setLimit p k w .status ≡ p .status
-  unfolding setLimit
-  limit-status k w = refl
-
-  pub limit-trip : (k w : ℕ) → setLimit p k w .tripped ≡ p .tripped
-  unfolding setLimit
-  limit-trip k w = refl
-
-  pub response-status : (k x : ℕ) → setResponse p k x .status ≡ p .status
-  unfolding setResponse
-  response-status k x = refl
-
-  pub response-trip : (k x : ℕ) → setResponse p k x .tripped ≡ p .tripped
-  unfolding setResponse
-  response-trip k x = refl
-
-  pub measurement-status : (q w : ℕ) → setMeasurement p q w .status ≡ p .status
-  unfolding setMeasurement
-  measurement-status q w = refl
-
-  pub measurement-trip : (q w : ℕ) → setMeasurement p q w .tripped ≡ p .tripped
-  unfolding setMeasurement
-  measurement-trip q w = refl
-
-  -- a clearing takes the bits of the masks and does not untrip
   pub clear-bit : (ms : List ℕ) (j k : ℕ) → j < 4 → statusBit (clearBits p ms) j k ≡ (statusBit p j k && not (bit (getD ms j 0) k))
   unfolding clearBits
   clear-bit ms zero k h = without-bit (getD (p .status) 0 0) (getD ms 0 0) k
@@ -73,15 +32,6 @@ module _ (p : Page) where
   clear-bit ms (suc (suc zero)) k h = without-bit (getD (p .status) 2 0) (getD ms 2 0) k
   clear-bit ms (suc (suc (suc zero))) k h = without-bit (getD (p .status) 3 0) (getD ms 3 0) k
   clear-bit ms (suc (suc (suc (suc j)))) k h = absurd (omega arith)
-
-  -- there are four registers
-  pub past-end : (ms : List ℕ) (j k : ℕ) → 4 ≤ j → statusBit (clearBits p ms) j k ≡ false
-  unfolding clearBits
-  past-end ms zero k h = absurd (omega arith)
-  past-end ms (suc zero) k h = absurd (omega arith)
-  past-end ms (suc (suc zero)) k h = absurd (omega arith)
-  past-end ms (suc (suc (suc zero))) k h = absurd (omega arith)
-  past-end ms (suc (suc (suc (suc j)))) k h = zero-bit k
 
   pub clear-trip : (ms : List ℕ) → clearBits p ms .tripped ≡ p .tripped
   unfolding clearBits
@@ -194,7 +144,3 @@ module _ (p : Page) where
 pub powered-valid : pageValid powerOnPage ≡ true
 unfolding pageValid powerOnPage validOperation allValid causes warnings
 powered-valid = refl
-
-pub none-valid : pageValid noPage ≡ true
-unfolding pageValid validOperation allValid causes warnings
-none-valid = refl
