@@ -12,12 +12,12 @@ use Rattle.page.specs.Page.{noPage}
 use Rattle.lent.proofs.Sweep.{Swept, swept-turn, swept-found, same}
 use Rattle.bus.proofs.Defaults.{within}
 use Rattle.buffer.specs.Form.{storeAll}
-use Rattle.buffer.specs.Layout.{partForm, accountForm, unpagedForm, pageForm, pagesIn}
+use Rattle.buffer.specs.Layout.{partForm, accountForm, unpagedForm, pageForm, pagesIn, pageWide, pagesFrom, size}
 use Rattle.buffer.proofs.Laws.{page-back, store-step, store-end}
 use Rattle.buffer.proofs.Places.{page-local, store-length, get-at, array-set}
 use Rattle.buffer.proofs.Shapes.{Shape, shape-fits, got-shape}
 
-pub wide : pageForm .width ≡ 54
+pub wide : pageForm .width ≡ pageWide
 unfolding pageForm
 wide = refl
 
@@ -33,27 +33,27 @@ pub eight : (s : List ℕ) → length (pagesIn s) ≡ 8
 eight s = refl
 
 module _ (s : List ℕ) (k : ℕ) (h : k < 8) where
-  place : 34 + k * pageForm .width ≡ 34 + 54 * k
+  place : pagesFrom + k * pageForm .width ≡ pagesFrom + pageWide * k
   place = rw wide (omega arith)
 
-  pub page-at : (d : Page) → getD (pagesIn s) k d ≡ pageForm .get s (34 + 54 * k)
-  page-at d = get-at pageForm page-back page-local 8 k s 34 d h ∙ ap (pageForm .get s) place
+  pub page-at : (d : Page) → getD (pagesIn s) k d ≡ pageForm .get s (pagesFrom + pageWide * k)
+  page-at d = get-at pageForm page-back page-local 8 k s pagesFrom d h ∙ ap (pageForm .get s) place
 
-  module _ (l : length s ≡ 466) (q : Page) (g : Shape q) where
-    room : 34 + 54 * k + pageForm .width ≤ length s
+  module _ (l : length s ≡ size) (q : Page) (g : Shape q) where
+    room : pagesFrom + pageWide * k + pageForm .width ≤ length s
     room = rw wide (omega arith)
 
-    pub page-set : pagesIn (pageForm .store s (34 + 54 * k) q) ≡ set (pagesIn s) k q
+    pub page-set : pagesIn (pageForm .store s (pagesFrom + pageWide * k) q) ≡ set (pagesIn s) k q
     page-set =
         ap (λ (o : ℕ). pagesIn (pageForm .store s o q)) (sym place)
-        ∙ array-set pageForm page-back page-local q (shape-fits q g) 8 k s 34 h (rw wide (omega arith))
+        ∙ array-set pageForm page-back page-local q (shape-fits q g) 8 k s pagesFrom h (rw wide (omega arith))
 
-    pub page-length : length (pageForm .store s (34 + 54 * k) q) ≡ 466
-    page-length = store-length pageForm page-back s (34 + 54 * k) q (shape-fits q g) room ∙ l
+    pub page-length : length (pageForm .store s (pagesFrom + pageWide * k) q) ≡ size
+    page-length = store-length pageForm page-back s (pagesFrom + pageWide * k) q (shape-fits q g) room ∙ l
 
 -- a page that stands in a buffer has the right lengths
 pub page-shape : (s : List ℕ) (k : ℕ) (d : Page) → k < 8 → Shape (getD (pagesIn s) k d)
-page-shape s k d h = rw (page-at s k h d) (got-shape s (34 + 54 * k))
+page-shape s k d h = rw (page-at s k h d) (got-shape s (pagesFrom + pageWide * k))
 
 -- ---- a loop that changes each page by f, and gathers whether a pair of old and new passes the test p
 
@@ -61,12 +61,12 @@ module _ (f : Page → Page) (keeps : (x : Page) → Shape x → Shape (f x)) (p
   -- where a turn begins: what is left to store gives the whole
   pub record Changing (i k : ℕ) (c : Bool) (s : List ℕ) : Type 0 where
     pub few : i ≤ 8
-    pub place-is : k ≡ 34 + 54 * i
-    pub long : length s ≡ 466
+    pub place-is : k ≡ pagesFrom + pageWide * i
+    pub long : length s ≡ size
     pub pages : Swept noPage f p (pagesIn s₀) i c (pagesIn s)
-    pub left : storeAll pageForm s k (drop i (map f (pagesIn s₀))) ≡ storeAll pageForm s₀ 34 (map f (pagesIn s₀))
+    pub left : storeAll pageForm s k (drop i (map f (pagesIn s₀))) ≡ storeAll pageForm s₀ pagesFrom (map f (pagesIn s₀))
 
-  pub changing-first : length s₀ ≡ 466 → Changing 0 34 false s₀
+  pub changing-first : length s₀ ≡ size → Changing 0 pagesFrom false s₀
   changing-first l = record {
     few = omega arith;
     place-is = refl;
@@ -85,7 +85,7 @@ module _ (f : Page → Page) (keeps : (x : Page) → Shape x → Shape (f x)) (p
       shaped : Shape y
       shaped = rw (ey, x-is) (keeps (getD (pagesIn s₀) i noPage) (page-shape s₀ i noPage h))
 
-      t-is : t ≡ pageForm .store s (34 + 54 * i) y
+      t-is : t ≡ pageForm .store s (pagesFrom + pageWide * i) y
       t-is = et ∙ ap (λ (o : ℕ). pageForm .store s o y) (g .place-is)
 
       y-is : y ≡ getD (map f (pagesIn s₀)) i (pageForm .none)
@@ -93,7 +93,7 @@ module _ (f : Page → Page) (keeps : (x : Page) → Shape x → Shape (f x)) (p
           ey ∙ ap f x-is ∙ sym (List·getD-map f (pagesIn s₀) i noPage)
           ∙ within (map f (pagesIn s₀)) i (f noPage) (pageForm .none) h
 
-      pub changing-turn : (r : Bool) → r ≡ (c || p x y) → Changing (i + 1) (k + 54) r t
+      pub changing-turn : (r : Bool) → r ≡ (c || p x y) → Changing (i + 1) (k + pageWide) r t
       changing-turn r er = record {
         few = omega arith;
         place-is = let e = g .place-is in omega arith;
@@ -103,7 +103,7 @@ module _ (f : Page → Page) (keeps : (x : Page) → Shape x → Shape (f x)) (p
         left = rw (et, y-is, ← wide) (store-step pageForm s k i (map f (pagesIn s₀)) h ∙ g .left);
       }
 
-    pub changing-end : 8 ≤ i → s ≡ storeAll pageForm s₀ 34 (map f (pagesIn s₀))
+    pub changing-end : 8 ≤ i → s ≡ storeAll pageForm s₀ pagesFrom (map f (pagesIn s₀))
     changing-end h = sym (store-end pageForm s k i (map f (pagesIn s₀)) h) ∙ g .left
 
     pub changing-found : 8 ≤ i → c ≡ anyPair p (pagesIn s₀) (map f (pagesIn s₀))

@@ -24,7 +24,7 @@ use Rattle.device.specs.Step.{write, read, done, step}
 use Rattle.stream.specs.Stream.{State, state, stateValid, pageReply, byteTaken, partNext, ended}
 use Rattle.stream.proofs.Stopping.{reply-selected}
 use Rattle.buffer.specs.Form.{storeAll}
-use Rattle.buffer.specs.Layout.{partForm, accountForm, unpagedForm, pageForm, deviceForm, stateForm}
+use Rattle.buffer.specs.Layout.{partForm, accountForm, unpagedForm, pageForm, deviceForm, stateForm, pageWide, pagesFrom, size, unpagedAt}
 use Rattle.buffer.specs.Buffer.{decode, encode, ready, partOf, deviceOf, storePages, storeDevice, stores, endStores, stopFed, partFed, takenOf, powerFed, gives}
 use Rattle.buffer.specs.Private.{storeUnpaged, Held, Keeping, storeReply}
 use Rattle.buffer.proofs.Laws.{part-back, state-back}
@@ -60,7 +60,7 @@ read-long d h = simp (length-take, length-append, length-replicate) (omega arith
 pub keeping : (s : List ℕ) → ready s ≡ true → Keeping s
 unfolding ready stateValid partValid
 keeping s y =
-    let whole = and-eq-true-iff (eqb (length s) 466) (stateValid (decode s)) .0 y in
+    let whole = and-eq-true-iff (eqb (length s) size) (stateValid (decode s)) .0 y in
     let part = and-eq-true-iff (partValid (partOf s)) (deviceValid (deviceOf s)) .0 (whole .1) .0 in
     let counts = and-eq-true-iff (ltb (partOf s .phase) 5 && ltb (partOf s .count) 12) (ltb (partOf s .clocked) 10) .0 part .0 in
     let few = ltb-true (partOf s .count) 12 (and-eq-true-iff (ltb (partOf s .phase) 5) (ltb (partOf s .count) 12) .0 counts .1) in
@@ -77,7 +77,7 @@ module _ (s : List ℕ) (k : Keeping s) where
   pub ack-made : (b : ℕ) (r : Bool) → r ≡ ackIn (getD s 0 0) (take (2 + getD s 1 0 - 2) (drop 2 s)) b → r ≡ ackOf (partOf s) b
   ack-made b r e = e ∙ ap₂ (λ (x : ℕ) (l : List ℕ). ackIn x l b) (sym (phase-of s)) heard-of
 
-  pub reply-is : (u : Unpaged) (page : Page) (r : List ℕ) → u ≡ unpagedForm .get s 22 → page ≡ pageForm .get s (34 + 54 * (u .page % 8))
+  pub reply-is : (u : Unpaged) (page : Page) (r : List ℕ) → u ≡ unpagedForm .get s unpagedAt → page ≡ pageForm .get s (pagesFrom + pageWide * (u .page % 8))
       → r ≡ pageReply u page (take (2 + getD s 1 0 - 2) (drop 2 s)) → r ≡ step (deviceOf s) (read (heard (partOf s)) 8) .reply
   reply-is u page r eu ep er =
       let d = deviceOf s in
@@ -86,7 +86,7 @@ module _ (s : List ℕ) (k : Keeping s) where
       let n = d .unpaged .page % 8 in
       let small : n < 8 = omega arith in
       let one : page ≡ getD (d .pages) n noPage =
-      ep ∙ ap (λ (x : Unpaged). pageForm .get s (34 + 54 * (x .page % 8))) same ∙ sym (page-at s n small noPage)
+      ep ∙ ap (λ (x : Unpaged). pageForm .get s (pagesFrom + pageWide * (x .page % 8))) same ∙ sym (page-at s n small noPage)
       ∙ ap (λ (l : List Page). getD l n noPage) (sym (pages-of s)) in
       er ∙ ap (pageReply u page) heard-of ∙ ap₂ (λ (x : Unpaged) (y : Page). pageReply x y h) same one
       ∙ sym (reply-selected d h (k .holds .valid) (ap length (pages-of s)))
@@ -124,7 +124,7 @@ module _ (s : List ℕ) (k : Keeping s) (b : ℕ) (m : List ℕ) (em : m ≡ par
       (λ y. let h = ltb-true (partForm .get s 0 .count) 11 y in rw y (omega arith))
       (λ n. rw n (omega arith)))
 
-  long-more : length m ≡ 466
+  long-more : length m ≡ size
   long-more = ap length more ∙ part-length s (k .holds .long) q sized
 
   pub keeping-more : Keeping m
@@ -198,8 +198,8 @@ module _ (s : List ℕ) (p : Part) (x : ℕ) (t : List ℕ) where
       let d = deviceOf s in
       let e : ended d p ≡ step d (write (heard p)) .done = rw y in (
         a ∙ ap (λ (r : Done). r .answer) (sym e),
-        b ∙ ap (λ (m : List ℕ). unpagedForm .store m 22 (step d (write (heard p)) .done .device .unpaged))
-            (agree (stores d (write (heard p))) (endStores d p) s 34 (step d (write (heard p)) .done .device .pages) (λ i. rw y))
+        b ∙ ap (λ (m : List ℕ). unpagedForm .store m unpagedAt (step d (write (heard p)) .done .device .unpaged))
+            (agree (stores d (write (heard p))) (endStores d p) s pagesFrom (step d (write (heard p)) .done .device .pages) (λ i. rw y))
             ∙ ap (λ (r : Done). storeDevice (endStores d p) s (r .device)) (sym e),
       )
 
@@ -258,21 +258,21 @@ power-fits =
     let p = shape-fits powerOnPage power-on-shape in
     (part-fits idle idle-sized, ((tt, (tt, (tt, (tt, (tt, (tt, (tt, tt))))))), (refl, (p, (p, (p, (p, (p, (p, (p, (p, tt)))))))))))
 
-pub whole-wide : stateForm .width ≡ 466
+pub whole-wide : stateForm .width ≡ size
 unfolding stateForm partForm deviceForm unpagedForm accountForm pageForm
 whole-wide = refl
 
 whole-store : (s : List ℕ)
-    → storeAll pageForm (unpagedForm .store (partForm .store s 0 idle) 22 powerOnUnpaged) 34 (replicate 8 powerOnPage) ≡ stateForm .store s 0 (state idle (powerOn 8))
+    → storeAll pageForm (unpagedForm .store (partForm .store s 0 idle) unpagedAt powerOnUnpaged) pagesFrom (replicate 8 powerOnPage) ≡ stateForm .store s 0 (state idle (powerOn 8))
 unfolding stateForm partForm deviceForm unpagedForm accountForm powerOn
 whole-store s = refl
 
-pub powered-made : (s : List ℕ) → length s ≡ 466 → (p : Part) (u : Unpaged) (a b t : List ℕ) → p ≡ idle → u ≡ powerOnUnpaged
-    → a ≡ partForm .store s 0 p → b ≡ unpagedForm .store a 22 u → t ≡ storeAll pageForm b 34 (replicate 8 powerOnPage) → t ≡ powerFed s
+pub powered-made : (s : List ℕ) → length s ≡ size → (p : Part) (u : Unpaged) (a b t : List ℕ) → p ≡ idle → u ≡ powerOnUnpaged
+    → a ≡ partForm .store s 0 p → b ≡ unpagedForm .store a unpagedAt u → t ≡ storeAll pageForm b pagesFrom (replicate 8 powerOnPage) → t ≡ powerFed s
 unfolding powerFed encode
 powered-made s l p u a b t ep eu ea eb et =
-    rw (eq-eqb (length s) 466 l)
-    (et ∙ ap (λ (m : List ℕ). storeAll pageForm m 34 (replicate 8 powerOnPage)) (eb ∙ ap₂ (λ (m : List ℕ) (v : Unpaged). unpagedForm .store m 22 v) (ea ∙ ap (partForm .store s 0) ep) eu)
+    rw (eq-eqb (length s) size l)
+    (et ∙ ap (λ (m : List ℕ). storeAll pageForm m pagesFrom (replicate 8 powerOnPage)) (eb ∙ ap₂ (λ (m : List ℕ) (v : Unpaged). unpagedForm .store m unpagedAt v) (ea ∙ ap (partForm .store s 0) ep) eu)
     ∙ whole-store s
     ∙ ap (λ (m : List ℕ). stateForm .store m 0 (state idle (powerOn 8))) (sym (append-nil s))
     ∙ state-back .stored (state idle (powerOn 8)) power-fits [] s [] (l ∙ sym whole-wide)

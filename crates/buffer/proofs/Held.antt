@@ -18,7 +18,7 @@ use Rattle.device.specs.Step.{Call, step}
 use Rattle.device.proofs.States.{valid-parts}
 use Rattle.records.specs.Records.{counted, surveyed}
 use Rattle.stream.specs.Stream.{stateValid, eightValid}
-use Rattle.buffer.specs.Layout.{partForm, accountForm, unpagedForm, deviceForm, stateForm, pagesIn}
+use Rattle.buffer.specs.Layout.{partForm, accountForm, unpagedForm, deviceForm, stateForm, pagesIn, size, unpagedAt}
 use Rattle.buffer.specs.Buffer.{decode, ready, partOf, deviceOf, storeDevice, stores, callFed, takenOf, eventFed, gives, refuses, eventGives, callGives}
 use Rattle.buffer.specs.Private.{Held}
 
@@ -31,40 +31,40 @@ module _ (s : List ℕ) where
   unfolding decode stateForm partForm
   device-of = refl
 
-  pub device-is : deviceOf s ≡ device (unpagedForm .get s 22) (pagesIn s)
+  pub device-is : deviceOf s ≡ device (unpagedForm .get s unpagedAt) (pagesIn s)
   unfolding decode stateForm partForm deviceForm unpagedForm accountForm
   device-is = refl
 
-  pub unpaged-of : deviceOf s .unpaged ≡ unpagedForm .get s 22
+  pub unpaged-of : deviceOf s .unpaged ≡ unpagedForm .get s unpagedAt
   unpaged-of = ap (λ (d : Device). d .unpaged) device-is
 
   pub pages-of : deviceOf s .pages ≡ pagesIn s
   pages-of = ap (λ (d : Device). d .pages) device-is
 
-  device-valid : deviceValid (deviceOf s) ≡ (unpagedValid 8 (unpagedForm .get s 22) && allOf pageValid (pagesIn s))
+  device-valid : deviceValid (deviceOf s) ≡ (unpagedValid 8 (unpagedForm .get s unpagedAt) && allOf pageValid (pagesIn s))
   unfolding deviceValid supported
   device-valid = rw device-is
 
   pub valid-made : (part unpaged pages : Bool)
-      → part ≡ partValid (partForm .get s 0) → unpaged ≡ unpagedValid 8 (unpagedForm .get s 22) → pages ≡ allOf pageValid (pagesIn s)
+      → part ≡ partValid (partForm .get s 0) → unpaged ≡ unpagedValid 8 (unpagedForm .get s unpagedAt) → pages ≡ allOf pageValid (pagesIn s)
       → (part && (unpaged && pages)) ≡ stateValid (decode s)
   unfolding stateValid
   valid-made part unpaged pages a b c = rw (a, b, c, device-valid, part-of)
 
-  pub ready-made : length s ≡ 466 → (r : Bool) → r ≡ stateValid (decode s) → r ≡ ready s
+  pub ready-made : length s ≡ size → (r : Bool) → r ≡ stateValid (decode s) → r ≡ ready s
   unfolding ready
-  ready-made l r e = rw (eq-eqb (length s) 466 l) e
+  ready-made l r e = rw (eq-eqb (length s) size l) e
 
-  pub ready-not : (length s ≡ 466 → ⊥) → false ≡ ready s
+  pub ready-not : (length s ≡ size → ⊥) → false ≡ ready s
   unfolding ready
-  ready-not l = rw (ne-eqb (length s) 466 l)
+  ready-not l = rw (ne-eqb (length s) size l)
 
   pub held : ready s ≡ true → Held s
   unfolding ready stateValid
   held h =
-      let both = and-eq-true-iff (eqb (length s) 466) (stateValid (decode s)) .0 h in
+      let both = and-eq-true-iff (eqb (length s) size) (stateValid (decode s)) .0 h in
       record {
-        long = eqb-true (length s) 466 (both .0);
+        long = eqb-true (length s) size (both .0);
         valid = and-eq-true-iff (partValid (partOf s)) (deviceValid (deviceOf s)) .0 (both .1) .1;
       }
 

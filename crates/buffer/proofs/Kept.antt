@@ -15,7 +15,7 @@ use Rattle.bus.specs.Part.{part, heard, taking, answering}
 use Rattle.bus.specs.Automaton.{byted, afterByte}
 use Rattle.buffer.specs.Form.{Form, storeByte, octet, both, array, getAll, storeAll}
 use Rattle.buffer.specs.Private.{heardByte}
-use Rattle.buffer.specs.Layout.{partFields, partForm}
+use Rattle.buffer.specs.Layout.{partFields, partForm, size}
 use Rattle.buffer.proofs.Laws.{octet-back, array-back, part-back}
 use Rattle.buffer.proofs.Places.{Local, octet-local, all-local, stored-parts, below, read-back, store-length, array-set}
 use Rattle.buffer.proofs.Shapes.{all-fit}
@@ -239,7 +239,7 @@ octets-part (suc n) s o h =
     sym (ap (take (suc n)) (drop-cons s o 0 (omega arith))
     ∙ ap (λ (m : List ℕ). getD s o 0 ∷ m) (ap (λ (i : ℕ). take n (drop i s)) (sym (add-one o)) ∙ sym (octets-part n s (o + 1) (omega arith))))
 
-pub heard-part : (s : List ℕ) → length s ≡ 466 → getD s 1 0 ≤ 11 → heard (partForm .get s 0) ≡ take (getD s 1 0) (drop 2 s)
+pub heard-part : (s : List ℕ) → length s ≡ size → getD s 1 0 ≤ 11 → heard (partForm .get s 0) ≡ take (getD s 1 0) (drop 2 s)
 unfolding partForm
 heard-part s l h =
     let e : min (getD s 1 0) 11 ≡ getD s 1 0 = omega arith in

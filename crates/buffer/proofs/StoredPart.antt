@@ -8,7 +8,7 @@ use lib.ListN.{length}
 use Rattle.bus.specs.declared.Part.{Part}
 use Rattle.bus.specs.Part.{idle}
 use Rattle.stream.specs.Stream.{state}
-use Rattle.buffer.specs.Layout.{partForm, deviceForm}
+use Rattle.buffer.specs.Layout.{partForm, deviceForm, size}
 use Rattle.buffer.specs.Buffer.{decode, deviceOf}
 use Rattle.buffer.proofs.Laws.{part-back}
 use Rattle.buffer.proofs.Places.{Local, device-local, read-back, above, store-length}
@@ -20,11 +20,11 @@ pub idle-sized : Sized idle
 unfolding idle
 idle-sized = record { bytes = refl; reply = refl }
 
-module _ (s : List ℕ) (long : length s ≡ 466) (q : Part) (z : Sized q) where
+module _ (s : List ℕ) (long : length s ≡ size) (q : Part) (z : Sized q) where
   room : 0 + partForm .width ≤ length s
   room = rw part-wide (omega arith)
 
-  pub part-length : length (partForm .store s 0 q) ≡ 466
+  pub part-length : length (partForm .store s 0 q) ≡ size
   part-length = store-length partForm part-back s 0 q (part-fits q z) room ∙ long
 
   stored : List ℕ

@@ -17,7 +17,7 @@ use Rattle.bus.specs.Part.{writing, heard, idle}
 use Rattle.bus.specs.Automaton.{Event, start, byte, again, clock, stop, clockByte}
 use Rattle.bus.specs.Ack.{ackOf}
 use Rattle.stream.specs.Stream.{State, state, stateValid, partNext, ended}
-use Rattle.buffer.specs.Layout.{partForm, unpagedForm, pageForm, stateForm, size, pagesFrom}
+use Rattle.buffer.specs.Layout.{partForm, unpagedForm, pageForm, stateForm, size, pagesFrom, unpagedAt}
 
 -- the state that a buffer holds, and its bytes; every byte is some value's
 unfoldable pub decode : List ℕ → State
@@ -45,7 +45,7 @@ storePages t s o (p ∷ l) = storePages (λ i. t (suc i)) (cond (t 0) (pageForm 
 
 -- a device over the one that s holds: those of its pages that pass the test, and its unpaged part
 unfoldable pub storeDevice : (ℕ → Bool) → List ℕ → Device → List ℕ
-storeDevice t s d = unpagedForm .store (storePages t s pagesFrom (d .pages)) 22 (d .unpaged)
+storeDevice t s d = unpagedForm .store (storePages t s pagesFrom (d .pages)) unpagedAt (d .unpaged)
 
 -- an accepted call stores the pages that it touches
 unfoldable pub stores : Device → Call → ℕ → Bool

@@ -142,5 +142,11 @@ size = 466
 abbrev pub pagesFrom : ℕ
 pagesFrom = 34
 
+abbrev pub unpagedAt : ℕ
+unpagedAt = 22
+
+abbrev pub pageWide : ℕ
+pageWide = 54
+
 abbrev pub pagesIn : List ℕ → List Page
 pagesIn s = array 8 pageForm .get s pagesFrom

@@ -12,7 +12,7 @@ use Rattle.device.specs.Device.{device, deviceValid}
 use Rattle.device.specs.Step.{Call, clocked, done, step}
 use Rattle.lent.specs.declared.turns.Sending.{Sending}
 use Rattle.buffer.specs.Form.{octet, storeAll}
-use Rattle.buffer.specs.Layout.{unpagedForm, size}
+use Rattle.buffer.specs.Layout.{unpagedForm, size, unpagedAt}
 use Rattle.buffer.specs.Buffer.{deviceOf}
 
 -- the right length, and a valid device
@@ -22,7 +22,7 @@ pub record Held (s : List ℕ) : Type 0 where
 
 -- a device of which the unpaged part alone is stored
 abbrev pub storeUnpaged : List ℕ → Device → List ℕ
-storeUnpaged s d = unpagedForm .store s 22 (d .unpaged)
+storeUnpaged s d = unpagedForm .store s unpagedAt (d .unpaged)
 
 -- what a call that changes no page leaves and sends
 pub record Answers (s : List ℕ) (c : Call) (t : Sending) : Type 0 where

@@ -2,7 +2,7 @@
 ghost use mathlib.Core.Path.{_≡_};
 ghost use Prim.Native.Nat.{_+_, _≤_};
 ghost use lib.ListN.{length};
-ghost use Rattle.buffer.specs.Layout.{settingFields, settingsTo, valueFields, valuesTo, pageForm};
+ghost use Rattle.buffer.specs.Layout.{settingFields, settingsTo, valueFields, valuesTo, pageForm, pageWide};
 use super::leaf::mark_at;
 use super::leaf::put_byte;
 use super::leaf::put_bytes;
@@ -19,7 +19,7 @@ use super::lists::six_bytes;
 use page::Page;
 
 pub fn load_page(s: &[u8], o: usize) -> Page
-    requires { ⌜ o + 54 ≤ length (now s) ⌝ }
+    requires { ⌜ o + pageWide ≤ length (now s) ⌝ }
     ensures { λ r. ⌜ r ≡ pageForm .get (now (s .entry)) o ⌝ }
 {
     let operation = s[o];
@@ -53,7 +53,7 @@ pub fn load_page(s: &[u8], o: usize) -> Page
 }
 
 fn save_settings(s: &mut [u8], o: usize, p: Page)
-    requires { ⌜ o + 54 ≤ length (now s) ⌝ }
+    requires { ⌜ o + pageWide ≤ length (now s) ⌝ }
     ensures { λ _. ⌜ now (s .exit) ≡ settingFields .store (now (s .entry)) o (settingsTo p) ⌝ }
 {
     let limits = p.limits;
@@ -87,7 +87,7 @@ fn save_values(s: &mut [u8], o: usize, p: Page)
 }
 
 pub fn save_page(s: &mut [u8], o: usize, p: Page)
-    requires { ⌜ o + 54 ≤ length (now s) ⌝ }
+    requires { ⌜ o + pageWide ≤ length (now s) ⌝ }
     ensures { λ _. ⌜ now (s .exit) ≡ pageForm .store (now (s .entry)) o p ⌝ }
 {
     save_settings(s, o, p);

@@ -12,7 +12,7 @@ ghost use Rattle.page.specs.Causes.{ticked};
 ghost use Rattle.page.specs.Status.{anyStatus, risen};
 ghost use Rattle.writes.specs.Left.{pageLeft};
 ghost use Rattle.buffer.specs.Form.{storeAll};
-ghost use Rattle.buffer.specs.Layout.{pageForm, pagesIn, size};
+ghost use Rattle.buffer.specs.Layout.{pageForm, pagesIn, size, pageWide, pagesFrom};
 use super::page_record::load_page;
 use super::page_record::save_page;
 use page::Page;
@@ -77,7 +77,7 @@ pub fn page_at(s: &[u8], i: u8) -> Page
 // Stores page i, where that is wanted and there is such a page.
 pub fn put_page(s: &mut [u8], i: u8, wanted: bool, p: Page)
     requires { ⌜ length (now s) ≡ size ⌝ }
-    ensures { λ _. ⌜ now (s .exit) ≡ cond (wanted && ltb i 8) (pageForm .store (now (s .entry)) (34 + 54 * i) p) (now (s .entry)) ⌝ }
+    ensures { λ _. ⌜ now (s .exit) ≡ cond (wanted && ltb i 8) (pageForm .store (now (s .entry)) (pagesFrom + pageWide * i) p) (now (s .entry)) ⌝ }
 {
     if wanted {
         if i < 8 {
@@ -91,7 +91,7 @@ pub fn put_page(s: &mut [u8], i: u8, wanted: bool, p: Page)
 fn write_each(s: &mut [u8], w: Write) -> bool
     requires { ⌜ length (now s) ≡ size ⌝ }
     ensures { λ r. ⌜ (r ≡ anyPair risen (pagesIn (now (s .entry))) (map (pageLeft w) (pagesIn (now (s .entry)))))
-        × (now (s .exit) ≡ storeAll pageForm (now (s .entry)) 34 (map (pageLeft w) (pagesIn (now (s .entry))))) ⌝ }
+        × (now (s .exit) ≡ storeAll pageForm (now (s .entry)) pagesFrom (map (pageLeft w) (pagesIn (now (s .entry))))) ⌝ }
 {
     let mut rose = false;
     let mut i: usize = 0;
@@ -111,7 +111,7 @@ fn write_each(s: &mut [u8], w: Write) -> bool
 pub fn every(s: &mut [u8], w: Write, wanted: bool) -> bool
     requires { ⌜ length (now s) ≡ size ⌝ }
     ensures { λ r. ⌜ (r ≡ (wanted && anyPair risen (pagesIn (now (s .entry))) (map (pageLeft w) (pagesIn (now (s .entry))))))
-        × (now (s .exit) ≡ cond wanted (storeAll pageForm (now (s .entry)) 34 (map (pageLeft w) (pagesIn (now (s .entry))))) (now (s .entry))) ⌝ }
+        × (now (s .exit) ≡ cond wanted (storeAll pageForm (now (s .entry)) pagesFrom (map (pageLeft w) (pagesIn (now (s .entry))))) (now (s .entry))) ⌝ }
 {
     if !wanted {
         return false;
@@ -122,7 +122,7 @@ pub fn every(s: &mut [u8], w: Write, wanted: bool) -> bool
 // A tick on every page.
 pub fn tick_each(s: &mut [u8])
     requires { ⌜ length (now s) ≡ size ⌝ }
-    ensures { λ _. ⌜ now (s .exit) ≡ storeAll pageForm (now (s .entry)) 34 (map ticked (pagesIn (now (s .entry)))) ⌝ }
+    ensures { λ _. ⌜ now (s .exit) ≡ storeAll pageForm (now (s .entry)) pagesFrom (map ticked (pagesIn (now (s .entry)))) ⌝ }
 {
     let mut i: usize = 0;
     let mut k: usize = super::PAGES;
@@ -138,7 +138,7 @@ pub fn tick_each(s: &mut [u8])
 // Every page as power-on leaves it.
 pub fn power_on_each(s: &mut [u8])
     requires { ⌜ length (now s) ≡ size ⌝ }
-    ensures { λ _. ⌜ now (s .exit) ≡ storeAll pageForm (now (s .entry)) 34 (replicate 8 powerOnPage) ⌝ }
+    ensures { λ _. ⌜ now (s .exit) ≡ storeAll pageForm (now (s .entry)) pagesFrom (replicate 8 powerOnPage) ⌝ }
 {
     let p = page::power_on_page();
     let mut i: usize = 0;

@@ -28,7 +28,7 @@ use Rattle.history.proofs.Runs.{same-length}
 use Rattle.history.proofs.PageAfter.{pages-stay}
 use Rattle.stream.specs.Stream.{byteTaken, partNext, ended}
 use Rattle.buffer.specs.Form.{getAll}
-use Rattle.buffer.specs.Layout.{pageForm}
+use Rattle.buffer.specs.Layout.{pageForm, pagesFrom}
 use Rattle.buffer.specs.Buffer.{partOf, deviceOf, stores, endStores}
 use Rattle.buffer.proofs.Shapes.{Shape, got-shape, settled-shape, measured-shape, ticked-shape, left-shape}
 use Rattle.buffer.proofs.Kept.{Sized, got-sized, byted-sized}
@@ -83,7 +83,7 @@ pub record Fitting (d : Device) : Type 0 where
   pub shaped : Shaped (d .pages)
 
 pub held-fitting : (s : List ℕ) → Fitting (deviceOf s)
-held-fitting s = record { number = rw (pages-of s); shaped = rw (pages-of s) (got-shaped 8 s 34) }
+held-fitting s = record { number = rw (pages-of s); shaped = rw (pages-of s) (got-shaped 8 s pagesFrom) }
 
 module _ (d : Device) (h : Fitting d) where
   effect-shaped : (c : Call) → Shaped (effect d c .pages)

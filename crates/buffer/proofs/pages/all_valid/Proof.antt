@@ -8,7 +8,7 @@ use lib.ListN.{drop}
 use borrow.Author.Needs.{needs}
 use Rattle.laws.specs.Lists.{allOf}
 use Rattle.page.specs.Page.{noPage}
-use Rattle.buffer.specs.Layout.{pageForm, pagesIn}
+use Rattle.buffer.specs.Layout.{pageForm, pagesIn, pageWide, pagesFrom}
 use Rattle.buffer.proofs.EightPages.{page-at}
 use Rattle.page.specs.Settings.{pageValid}
 use Rattle.laws.proofs.Folds.{all-step, all-end}
@@ -17,7 +17,7 @@ use Rattle.buffer.proofs.pages.all_valid.Tie as tie
 
 abbrev Inv-loop : tie.InvT-loop
 Inv-loop s ok₀ i₀ k₀ ok i k =
-    (i ≤ 8) × (k ≡ 34 + 54 * i) × ((ok && allOf pageValid (drop i (pagesIn s))) ≡ allOf pageValid (pagesIn s))
+    (i ≤ 8) × (k ≡ pagesFrom + pageWide * i) × ((ok && allOf pageValid (drop i (pagesIn s))) ≡ allOf pageValid (pagesIn s))
 
 abbrev μ-loop : tie.MeasureT-loop
 μ-loop s ok₀ i₀ k₀ ok i k = 8 - i

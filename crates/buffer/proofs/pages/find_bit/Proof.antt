@@ -8,7 +8,7 @@ use lib.ListN.{drop}
 use borrow.Author.Needs.{needs}
 use Rattle.laws.specs.Lists.{anyOf}
 use Rattle.page.specs.Page.{noPage}
-use Rattle.buffer.specs.Layout.{pageForm, pagesIn}
+use Rattle.buffer.specs.Layout.{pageForm, pagesIn, pageWide, pagesFrom}
 use Rattle.buffer.proofs.EightPages.{page-at}
 use Rattle.page.specs.Status.{anyStatus}
 use Rattle.records.proofs.Found.{found-step, found-end}
@@ -17,7 +17,7 @@ use Rattle.buffer.proofs.pages.find_bit.Tie as tie
 
 abbrev Inv-loop : tie.InvT-loop
 Inv-loop s found₀ i₀ k₀ found i k =
-    (i ≤ 8) × (k ≡ 34 + 54 * i) × ((found || anyOf anyStatus (drop i (pagesIn s))) ≡ anyOf anyStatus (pagesIn s))
+    (i ≤ 8) × (k ≡ pagesFrom + pageWide * i) × ((found || anyOf anyStatus (drop i (pagesIn s))) ≡ anyOf anyStatus (pagesIn s))
 
 abbrev μ-loop : tie.MeasureT-loop
 μ-loop s found₀ i₀ k₀ found i k = 8 - i
