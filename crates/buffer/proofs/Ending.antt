@@ -19,8 +19,9 @@ use Rattle.unpaged.specs.declared.Unpaged.{Unpaged}
 use Rattle.unpaged.specs.Unpaged.{powerOnUnpaged}
 use Rattle.device.specs.declared.Device.{Device}
 use Rattle.device.specs.declared.Done.{Done}
-use Rattle.device.specs.Device.{deviceValid, powerOn}
+use Rattle.device.specs.Device.{usual, powerOn, deviceValid}
 use Rattle.device.specs.Step.{write, read, done, step}
+use Rattle.device.proofs.PowerOn.{usual-device}
 use Rattle.stream.specs.Stream.{State, state, stateValid, pageReply, byteTaken, partNext, ended}
 use Rattle.stream.proofs.Stopping.{reply-selected}
 use Rattle.buffer.specs.Form.{storeAll}
@@ -252,10 +253,11 @@ module _ (s : List ℕ) (h : Held s) where
 
 -- ---- power-on
 
-pub power-fits : stateForm .Fits (state idle (powerOn 8))
-unfolding stateForm deviceForm unpagedForm accountForm powerOn
+pub power-fits : stateForm .Fits (state idle (powerOn (usual 8)))
+unfolding stateForm deviceForm unpagedForm accountForm
 power-fits =
     let p = shape-fits powerOnPage power-on-shape in
+    rw (usual-device 8)
     (part-fits idle idle-sized, ((tt, (tt, (tt, (tt, (tt, (tt, (tt, tt))))))), (refl, (p, (p, (p, (p, (p, (p, (p, (p, tt)))))))))))
 
 pub whole-wide : stateForm .width ≡ size
@@ -263,9 +265,9 @@ unfolding stateForm partForm deviceForm unpagedForm accountForm pageForm
 whole-wide = refl
 
 whole-store : (s : List ℕ)
-    → storeAll pageForm (unpagedForm .store (partForm .store s 0 idle) unpagedAt powerOnUnpaged) pagesFrom (replicate 8 powerOnPage) ≡ stateForm .store s 0 (state idle (powerOn 8))
-unfolding stateForm partForm deviceForm unpagedForm accountForm powerOn
-whole-store s = refl
+    → storeAll pageForm (unpagedForm .store (partForm .store s 0 idle) unpagedAt powerOnUnpaged) pagesFrom (replicate 8 powerOnPage) ≡ stateForm .store s 0 (state idle (powerOn (usual 8)))
+unfolding stateForm partForm deviceForm unpagedForm accountForm
+whole-store s = rw (usual-device 8)
 
 pub powered-made : (s : List ℕ) → length s ≡ size → (p : Part) (u : Unpaged) (a b t : List ℕ) → p ≡ idle → u ≡ powerOnUnpaged
     → a ≡ partForm .store s 0 p → b ≡ unpagedForm .store a unpagedAt u → t ≡ storeAll pageForm b pagesFrom (replicate 8 powerOnPage) → t ≡ powerFed s
@@ -274,6 +276,6 @@ powered-made s l p u a b t ep eu ea eb et =
     rw (eq-eqb (length s) size l)
     (et ∙ ap (λ (m : List ℕ). storeAll pageForm m pagesFrom (replicate 8 powerOnPage)) (eb ∙ ap₂ (λ (m : List ℕ) (v : Unpaged). unpagedForm .store m unpagedAt v) (ea ∙ ap (partForm .store s 0) ep) eu)
     ∙ whole-store s
-    ∙ ap (λ (m : List ℕ). stateForm .store m 0 (state idle (powerOn 8))) (sym (append-nil s))
-    ∙ state-back .stored (state idle (powerOn 8)) power-fits [] s [] (l ∙ sym whole-wide)
-    ∙ append-nil (stateForm .put (state idle (powerOn 8))))
+    ∙ ap (λ (m : List ℕ). stateForm .store m 0 (state idle (powerOn (usual 8)))) (sym (append-nil s))
+    ∙ state-back .stored (state idle (powerOn (usual 8))) power-fits [] s [] (l ∙ sym whole-wide)
+    ∙ append-nil (stateForm .put (state idle (powerOn (usual 8)))))

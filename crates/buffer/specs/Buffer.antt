@@ -8,7 +8,7 @@ use lib.Dec.{eqb}
 use Rattle.page.specs.declared.Page.{Page}
 use Rattle.reads.specs.Reply.{replyOf}
 use Rattle.device.specs.declared.Device.{Device}
-use Rattle.device.specs.Device.{device, powerOn}
+use Rattle.device.specs.Device.{device, usual, powerOn}
 use Rattle.device.specs.Step.{Call, write, answered, clocked, done, step}
 use Rattle.device.specs.Supply.{suppliesAt}
 use Rattle.history.specs.Pages.{touches}
@@ -78,7 +78,7 @@ eventFed s e = cond (ready s) (takenOf s e) s
 
 -- power-on sets every byte of a buffer of the right length
 unfoldable pub powerFed : List ℕ → List ℕ
-powerFed s = cond (eqb (length s) size) (encode (state idle (powerOn 8))) s
+powerFed s = cond (eqb (length s) size) (encode (state idle (powerOn (usual 8)))) s
 
 -- ---- what is given
 

@@ -1,4 +1,5 @@
 pub mod States
+pub mod PowerOn
 pub mod Refused
 pub mod OnePage
 pub mod Calls

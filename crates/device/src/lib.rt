@@ -2,7 +2,7 @@
 // hands it back with the answer number. Any bytes, numbers and states are taken.
 ghost use mathlib.Core.Path.{_≡_};
 ghost use lib.ListN.{length};
-ghost use Rattle.device.specs.Device.{powerOn};
+ghost use Rattle.device.specs.Device.{usual, powerOn};
 ghost use Rattle.device.specs.Step.{write, read, measure, sample, alertResponse, tick, step};
 use page::Page;
 use unpaged::Unpaged;
@@ -26,7 +26,7 @@ pub struct Done {
 }
 
 pub fn power_on() -> Device
-    ensures { λ r. ⌜ r ≡ powerOn 8 ⌝ }
+    ensures { λ r. ⌜ r ≡ powerOn (usual 8) ⌝ }
 {
     let u = unpaged::power_on_unpaged();
     let p = page::power_on_page();

@@ -14,12 +14,12 @@ use Rattle.energy.specs.Claim.{AtEachCopy}
 use Rattle.energy.proofs.Invariant.{Good, at-start, after-sample}
 use Rattle.energy.proofs.Claim.{after-copies}
 use Rattle.command.specs.Meaning.{commandOf, readingOf}
-use Rattle.unpaged.specs.Unpaged.{powerOnUnpaged}
 use Rattle.reads.specs.Answers.{answersData}
 use Rattle.reads.specs.Data.{readData, checked, readStream}
 use Rattle.device.specs.declared.Device.{Device}
 use Rattle.device.specs.Device.{powerOn, deviceValid}
 use Rattle.device.specs.Step.{Call, write, read, measure, sample, alertResponse, tick, answerOf, answered, effect, sent, step}
+use Rattle.device.proofs.PowerOn.{powered}
 use Rattle.history.specs.Run.{next, answer}
 use Rattle.history.specs.Accepted.{codeOf}
 use Rattle.history.specs.Energy.{Turn, isEnergyReply, partOf, part, logPart, logAfter, CopiesOf, TrueCopies, TotalsTrusted}
@@ -81,5 +81,5 @@ after-calls d l (t ∷ ts) g m =
     after-calls (next d (t .call)) (logPart l (t .copies) (part d t)) ts (after-call d l g (t .call) (t .copies) (m .0)) (m .1)
 
 pub totals-trusted : TotalsTrusted
-unfolding TotalsTrusted powerOn powerOnUnpaged
-totals-trusted n ts m = after-calls (powerOn n) freshLog ts at-start m
+unfolding TotalsTrusted
+totals-trusted x ts m = after-calls (powerOn x) freshLog ts (rw (powered x .energy) at-start) m

@@ -31,7 +31,7 @@ use Rattle.writes.specs.Answers.{dataAnswer, lengthAnswer, codeAnswer, addresse
 use Rattle.writes.specs.Left.{pageLeft, unpagedLeft}
 use Rattle.reads.specs.Answers.{headerAnswer, readAnswer}
 use Rattle.device.specs.declared.Device.{Device}
-use Rattle.device.specs.Device.{deviceValid, pageOf, alertRisen, powerOn}
+use Rattle.device.specs.Device.{Choice, deviceValid, pageOf, alertRisen, powerOn}
 use Rattle.device.specs.Step.{Call, write, read, measure, sample, alertResponse, tick, answerOf, answered, effect, refusedDevice, step, written, measured, tickedDevice}
 use Rattle.history.specs.Run.{next, answer, run, reached}
 use Rattle.history.specs.Accepted.{codeOf}
@@ -283,16 +283,16 @@ limit-meant code h =
     (λ e. either (eqb code 0x58) (λ y. (10, omega arith, omega arith, ap commandOf (eqb-true code 0x58 y)))
     (λ f. absurd (false≢true (rw (a, b, c, e, f) at h)))))))
 
-module _ (n : ℕ) (cs : List Call) where
+module _ (chosen : Choice) (cs : List Call) where
   abbrev before : Device
-  before = reached n cs
+  before = reached chosen cs
 
   -- set in a run, it leaves the state alike
   limit-set : (k w : ℕ) → 6 ≤ k → k < 11 → Alike (written before (Write.Change (Setting.Limit k w))) before
   unfolding unpagedLeft
   limit-set k w low high =
       let x = Write.Change (Setting.Limit k w) in
-      let g = current n cs in
+      let g = current chosen cs in
       let long = length-map-at (actsOn (before .unpaged)) (pageLeft x) (before .pages) in
       let number : length (written before x .pages) ≡ length (before .pages) = ap length (written-pages before x) ∙ long in
       record {
@@ -327,6 +327,6 @@ run-append d (c ∷ cs) ds = run-append (next d c) cs ds
 
 pub warn-limits-aside : WarnLimitsAside
 unfolding WarnLimitsAside run
-warn-limits-aside n cs ds s h z =
-    rw (run-append (powerOn n) cs (write s ∷ ds), run-append (powerOn n) cs ds)
-    (run-alike ds (next (reached n cs) (write s)) (reached n cs) (limit-written n cs s h z))
+warn-limits-aside x cs ds s h z =
+    rw (run-append (powerOn x) cs (write s ∷ ds), run-append (powerOn x) cs ds)
+    (run-alike ds (next (reached x cs) (write s)) (reached x cs) (limit-written x cs s h z))

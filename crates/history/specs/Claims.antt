@@ -19,9 +19,9 @@ pub record Claims : Type 0 where
   -- ---- which states get answer 15 (Valid.antt; data sheet 12)
   -- every call to a state that is not valid gets 15, and no other call does
   pub fifteen : Fifteen
-  -- a run of a device of n pages has n pages throughout
+  -- a run has as many pages as were chosen throughout
   pub reached-whole : ReachedWhole
-  -- with one to ninety-six pages each of its states is valid
+  -- with a granted choice, so one to ninety-six pages, each of its states is valid
   pub reached-valid : ReachedValid
   -- so that none of its calls gets 15
   pub no-fifteen : NoFifteen

@@ -21,15 +21,16 @@ use Rattle.writes.specs.declared.asked.Write.{Write}
 use Rattle.writes.specs.Asked.{asked}
 use Rattle.writes.specs.Left.{pageLeft, unpagedLeft, clearing}
 use Rattle.device.specs.declared.Device.{Device}
-use Rattle.device.specs.Device.{device, deviceValid, powerOn, supported}
+use Rattle.device.specs.Device.{device, deviceValid, supported}
 use Rattle.device.specs.Step.{write, measure, alertResponse, tick, answerOf, answered, effect, written, measured, tickedDevice, refusedDevice, left, done, step}
+use Rattle.device.proofs.PowerOn.{usual-device, usual-unpaged}
 use Rattle.device.proofs.OnePage.{one-written, one-measured}
 use Rattle.device.proofs.EveryPage.{every-written}
 use Rattle.device.proofs.States.{valid-parts, answered-valid}
 use Rattle.device.proofs.Refused.{device-stays}
 use Rattle.device.proofs.Calls.{stepped, valid-page, one-small, measured-small}
 use Rattle.lent.specs.declared.turns.Turn.{Turn}
-use Rattle.lent.specs.Lent.{beside, outcome, powered, poweredOutcome, refusedOutcome, acceptedTurn, writeTurn, measuredTurn, measuredPage, measureTurn, finished, alertLeft, turn}
+use Rattle.lent.specs.Lent.{beside, outcome, poweredBy, powered, poweredOutcome, refusedOutcome, acceptedTurn, writeTurn, measuredTurn, measuredPage, measureTurn, finished, alertLeft, turn}
 use Rattle.lent.proofs.Taken.{same-at, put-back}
 
 -- an answered alert response takes the alert down
@@ -129,12 +130,12 @@ module _ (u : Unpaged) (ps : List Page) where
 
 -- power-on sets the records where its answer is 0
 pub powered-done : (ps : List Page) → poweredOutcome (length ps) .answer ≡ 0 → beside (poweredOutcome (length ps)) (replicate (length ps) powerOnPage) ≡ powered ps
-unfolding powered poweredOutcome powerOn
-powered-done ps z = either (supported (length ps)) (λ y. rw y) (λ n. let f : 15 ≡ 0 = rw n at z in absurd (omega arith))
+unfolding poweredBy poweredOutcome
+powered-done ps z = either (supported (length ps)) (λ y. rw (y, usual-device (length ps))) (λ n. let f : 15 ≡ 0 = rw n at z in absurd (omega arith))
 
 pub powered-kept : (ps : List Page) → (poweredOutcome (length ps) .answer ≡ 0 → ⊥) → beside (poweredOutcome (length ps)) ps ≡ powered ps
-unfolding powered poweredOutcome
-powered-kept ps other = either (supported (length ps)) (λ y. absurd (other (rw y))) (λ n. rw n)
+unfolding poweredBy poweredOutcome
+powered-kept ps other = either (supported (length ps)) (λ y. absurd (other (rw y))) (λ n. rw (n, usual-unpaged (length ps)))
 
 refused-tick : (d : Device) → cmlBits (answered d tick) ≡ 0
 unfolding answered answerOf cmlBits

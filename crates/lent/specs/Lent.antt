@@ -15,7 +15,7 @@ use Rattle.unpaged.specs.Unpaged.{powerOnUnpaged, everyPage, refused, withAlert
 use Rattle.writes.specs.declared.asked.Write.{Write}
 use Rattle.writes.specs.Left.{pageLeft, unpagedLeft, clearing}
 use Rattle.device.specs.declared.Done.{Done}
-use Rattle.device.specs.Device.{device, powerOn, supported}
+use Rattle.device.specs.Device.{device, Choice, usual, supported, chosenUnpaged, powerOn}
 use Rattle.device.specs.Step.{done}
 use Rattle.lent.specs.declared.Outcome.{Outcome}
 use Rattle.lent.specs.declared.turns.Turn.{Turn}
@@ -24,9 +24,12 @@ use Rattle.lent.specs.declared.turns.Turn.{Turn}
 abbrev pub beside : Outcome → List Page → Done
 beside r ps = done (device (r .unpaged) ps) (r .answer)
 
--- power-on: with one to ninety-six records every one is set; with any other number the unpaged part alone
-unfoldable pub powered : List Page → Done
-powered ps = cond (supported (length ps)) (done (powerOn (length ps)) 0) (done (device powerOnUnpaged ps) 15)
+-- power-on by a choice for as many pages: with one to ninety-six records every one is set; with any other number the unpaged part alone
+unfoldable pub poweredBy : Choice → List Page → Done
+poweredBy x ps = cond (supported (length ps)) (done (powerOn x) 0) (done (device (chosenUnpaged x) ps) 15)
+
+abbrev pub powered : List Page → Done
+powered ps = poweredBy (usual (length ps)) ps
 
 abbrev pub outcome : Unpaged → ℕ → Outcome
 outcome u answer = record { unpaged = u; answer = answer }

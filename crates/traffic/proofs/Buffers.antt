@@ -14,8 +14,9 @@ use Rattle.reads.specs.Data.{readStream}
 use Rattle.reads.specs.Reply.{replyOf, alertStream}
 use Rattle.device.specs.declared.Device.{Device}
 use Rattle.device.specs.declared.Done.{Done}
-use Rattle.device.specs.Device.{deviceValid, supported, powerOn}
+use Rattle.device.specs.Device.{usual, supported, powerOn, deviceValid}
 use Rattle.device.specs.Step.{Call, write, read, measure, sample, alertResponse, tick, answered, sent, clocked, done, Result, step}
+use Rattle.device.proofs.PowerOn.{usual-granted}
 use Rattle.stream.specs.Stream.{State, state, stateValid, partNext, ended, beginAnswer, byteAck, byteSent, stopped, called, Turn, on, call, deviceNext, after, feed}
 use Rattle.stream.proofs.Fold.{fifteen-left}
 use Rattle.buffer.specs.Layout.{partForm, stateForm, size}
@@ -38,17 +39,17 @@ decodes x h = (
   ap (λ (l : List ℕ). stateForm .get l 0) (sym (append-nil (stateForm .put x))) ∙ state-back .back x h [] [],
 )
 
-power-is : (s : List ℕ) → length s ≡ size → powerFed s ≡ encode (state idle (powerOn 8))
+power-is : (s : List ℕ) → length s ≡ size → powerFed s ≡ encode (state idle (powerOn (usual 8)))
 unfolding powerFed
 power-is s long = rw (eq-eqb (length s) size long)
 
 pub power-decodes : PowerDecodes
 unfolding PowerDecodes Decodes
-power-decodes s long = ap decode (power-is s long) ∙ decodes (state idle (powerOn 8)) power-fits .1
+power-decodes s long = ap decode (power-is s long) ∙ decodes (state idle (powerOn (usual 8))) power-fits .1
 
 power-length : (s : List ℕ) → length s ≡ size → length (powerFed s) ≡ size
 unfolding Decodes
-power-length s long = ap length (power-is s long) ∙ decodes (state idle (powerOn 8)) power-fits .0
+power-length s long = ap length (power-is s long) ∙ decodes (state idle (powerOn (usual 8))) power-fits .0
 
 -- ---- STOP, by the test for 15
 
@@ -269,4 +270,4 @@ always-ready s ts long =
     let m = power-length s long in
     ready-is (fedAll (powerFed s) ts) (run-length (powerFed s) ts m)
     ∙ ap stateValid (buffer-runs (powerFed s) ts m ∙ ap (λ (x : State). feed x ts) (power-decodes s long))
-    ∙ no-fifteen 8 ts refl
+    ∙ no-fifteen (usual 8) ts (usual-granted 8)

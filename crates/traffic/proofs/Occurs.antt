@@ -32,9 +32,10 @@ use Rattle.reads.specs.Answers.{entryAnswer, headerAnswer, readAnswer, answersD
 use Rattle.reads.specs.Data.{wordBytes, readData, checked, readStream}
 use Rattle.reads.specs.Reply.{replyOf}
 use Rattle.device.specs.declared.Device.{Device}
-use Rattle.device.specs.Device.{powerOn, deviceValid, supported, pageOf}
+use Rattle.device.specs.Device.{usual, supported, powerOn, deviceValid, pageOf}
 use Rattle.device.specs.Step.{write, sample, answerOf, answered, effect, sent, step}
 use Rattle.device.proofs.States.{answered-of}
+use Rattle.device.proofs.PowerOn.{usual-number, usual-granted, usual-device, powered}
 use Rattle.history.specs.Run.{next, answer, run, reached}
 use Rattle.history.specs.ReadBack.{Reads, writtenData, WriteThenRead}
 use Rattle.history.proofs.Outcomes.{done-next}
@@ -53,10 +54,10 @@ use Rattle.traffic.proofs.Runs.{part-of, feed-valid, no-fifteen, call-d
 
 valid-run : (ts : List Turn) → stateValid (reachedBy ts) ≡ true
 unfolding NoFifteen supported
-valid-run ts = no-fifteen 8 ts refl
+valid-run ts = no-fifteen (usual 8) ts (usual-granted 8)
 
 abbrev poweredOn : State
-poweredOn = state idle (powerOn 8)
+poweredOn = state idle (powerOn (usual 8))
 
 valid-start : stateValid poweredOn ≡ true
 unfolding feed
@@ -194,21 +195,22 @@ abbrev writing : ℕ → ℕ → List Turn
 writing low high = events (start ∷ (writeOrder (voutWrite low high) ++ (stop ∷ [])))
 
 module _ (low high : ℕ) where
-  accepted : answer (reached 8 []) (write (voutWrite low high)) ≡ 0
+  accepted : answer (reached (usual 8) []) (write (voutWrite low high)) ≡ 0
   unfolding
-      run step answered answerOf powerOn powerOnUnpaged writeAnswer addressedAnswer codeAnswer lengthAnswer dataAnswer permitted validWrite
+      run step answered answerOf powerOnUnpaged writeAnswer addressedAnswer codeAnswer lengthAnswer dataAnswer permitted validWrite
       validSetting asked writeOf commandOf settingOf lookup table entryOf feed
-  accepted = rw (device-of poweredOn valid-start)
+  accepted = rw (device-of poweredOn valid-start, usual-device 8)
 
-  written-device : reachedBy (writing low high) .device ≡ next (powerOn 8) (write (voutWrite low high))
+  written-device : reachedBy (writing low high) .device ≡ next (powerOn (usual 8)) (write (voutWrite low high))
   unfolding AsRun run
-  written-device = as-run (powerOn 8) (aWrite (voutWrite low high) ∷ [])
+  written-device = as-run (powerOn (usual 8)) (aWrite (voutWrite low high) ∷ [])
 
   reads-back : low < 256 → high < 256 → Reads (reachedBy (writing low high) .device) 0x21 (low ∷ high ∷ [])
-  unfolding WriteThenRead run powerOn powerOnUnpaged supported Bytes writtenData lookup table entryOf
+  unfolding WriteThenRead run supported Bytes writtenData lookup table entryOf
   reads-back l h =
       rw written-device
-      (write-then-read 8 [] (voutWrite low high) 3 refl (omega arith, (omega arith, (l, (h, tt)))) (omega arith) refl (omega arith) accepted)
+      (write-then-read (usual 8) [] (voutWrite low high) 3 (usual-granted 8) (omega arith, (omega arith, (l, (h, tt)))) (omega arith) refl
+      (rw (powered (usual 8) .selected, usual-number 8) (omega arith)) accepted)
 
 -- a reply of two bytes shows the word, and the check over it is sent behind it
 vout-sent : (d : Device) (low high : ℕ) → Reads d 0x21 (low ∷ high ∷ [])
@@ -273,8 +275,10 @@ module _ (x : ℕ) (small : x < 32768) where
       rw e at (all-booked n (suc m) (after s (call (sample x))) (one-booked m s b))
 
   none-booked : Booked x 0 poweredOn
-  unfolding powerOn powerOnUnpaged accountValid energyReading
-  none-booked = record { valid = valid-start; range = refl; energy = omega arith; count = omega arith }
+  unfolding accountValid energyReading
+  none-booked =
+      let e = powered (usual 8) .energy in
+      record { valid = valid-start; range = rw e; energy = rw e (omega arith); count = rw e (omega arith) }
 
   booked : (n : ℕ) → Booked x n (reachedBy (samples n x))
   booked n = let e : n + 0 ≡ n = omega arith in rw e at (all-booked n 0 poweredOn none-booked)

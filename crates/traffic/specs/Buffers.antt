@@ -8,7 +8,7 @@ use mathlib.Core.List.{List, [], _∷_}
 use lib.ListN.{length}
 use Rattle.bus.specs.Part.{idle}
 use Rattle.bus.specs.Automaton.{Event, start, byte, again, clock, stop}
-use Rattle.device.specs.Device.{powerOn}
+use Rattle.device.specs.Device.{usual, powerOn}
 use Rattle.device.specs.Step.{Call}
 use Rattle.stream.specs.Stream.{State, state, beginAnswer, byteAck, byteSent, stopped, called, Turn, on, call, after, feed}
 use Rattle.buffer.specs.Layout.{stateForm, size}
@@ -28,7 +28,7 @@ unfoldable pub CallsDecode : Type 0
 CallsDecode = (s : List ℕ) (c : Call) → length s ≡ size → decode (callFed s c) ≡ after (decode s) (call c)
 
 unfoldable pub PowerDecodes : Type 0
-PowerDecodes = (s : List ℕ) → length s ≡ size → decode (powerFed s) ≡ state idle (powerOn 8)
+PowerDecodes = (s : List ℕ) → length s ≡ size → decode (powerFed s) ≡ state idle (powerOn (usual 8))
 
 unfoldable pub LengthStays : Type 0
 LengthStays =
