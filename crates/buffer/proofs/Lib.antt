@@ -8,3 +8,4 @@ pub mod StoredPart
 pub mod Stored
 pub mod Calling
 pub mod Ending
+pub mod Tested

@@ -2,6 +2,9 @@
 ghost use mathlib.Core.Path.{_≡_};
 ghost use Prim.Native.Nat.{_+_, _≤_};
 ghost use lib.ListN.{length};
+ghost use Rattle.retry.specs.Machines.{allValid};
+ghost use Rattle.page.specs.Settings.{pageValid};
+ghost use Rattle.buffer.specs.Form.{octet, array};
 ghost use Rattle.buffer.specs.Layout.{settingFields, settingsTo, valueFields, valuesTo, pageForm, pageWide};
 use super::leaf::mark_at;
 use super::leaf::put_byte;
@@ -50,6 +53,53 @@ pub fn load_page(s: &[u8], o: usize) -> Page
         status: status,
         tripped: tripped,
     }
+}
+
+// Six machines, each looked at by itself: the first that no run gives ends the test.
+fn machines_at(s: &[u8], o: usize) -> bool
+    requires { ⌜ o + 6 ≤ length (now s) ⌝ }
+    ensures { λ r. ⌜ r ≡ allValid (array 6 octet .get (now (s .entry)) o) ⌝ }
+{
+    let o1 = o + 1;
+    let o2 = o1 + 1;
+    let o3 = o2 + 1;
+    let o4 = o3 + 1;
+    let o5 = o4 + 1;
+    if !retry::valid(s[o]) {
+        return false;
+    }
+    if s[o1] != 0 {
+        return false;
+    }
+    if !retry::valid(s[o2]) {
+        return false;
+    }
+    if !retry::valid(s[o3]) {
+        return false;
+    }
+    if !retry::valid(s[o4]) {
+        return false;
+    }
+    retry::valid(s[o5])
+}
+
+// Whether the page there is valid, from the eight bytes alone that the test is about: OPERATION, the response to IOUT_OC, the machines.
+pub fn valid_at(s: &[u8], o: usize) -> bool
+    requires { ⌜ o + pageWide ≤ length (now s) ⌝ }
+    ensures { λ r. ⌜ r ≡ pageValid (pageForm .get (now (s .entry)) o) ⌝ }
+{
+    let o1 = o + 1;
+    let o2 = o1 + 2;
+    let o3 = o2 + 22;
+    let o4 = o3 + 1;
+    let o5 = o3 + 6;
+    if !page::settings::valid_operation(s[o]) {
+        return false;
+    }
+    if !page::settings::valid_response(1, s[o4]) {
+        return false;
+    }
+    machines_at(s, o5)
 }
 
 fn save_settings(s: &mut [u8], o: usize, p: Page)

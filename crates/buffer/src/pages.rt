@@ -15,24 +15,25 @@ ghost use Rattle.buffer.specs.Form.{storeAll};
 ghost use Rattle.buffer.specs.Layout.{pageForm, pagesIn, size, pageWide, pagesFrom};
 use super::page_record::load_page;
 use super::page_record::save_page;
+use super::page_record::valid_at;
 use page::Page;
 use writes::Write;
 
-// Each page is valid.
+// Each page is valid. The first that is not ends the test.
 pub fn all_valid(s: &[u8]) -> bool
     requires { ⌜ length (now s) ≡ size ⌝ }
     ensures { λ r. ⌜ r ≡ allOf pageValid (pagesIn (now (s .entry))) ⌝ }
 {
-    let mut ok = true;
     let mut i: usize = 0;
     let mut k: usize = super::PAGES;
     while i < 8 {
-        let p = load_page(s, k);
-        ok = ok & page::settings::page_valid(p);
+        if !valid_at(s, k) {
+            return false;
+        }
         k += super::PAGE;
         i += 1;
     }
-    ok
+    true
 }
 
 fn find_bit(s: &[u8]) -> bool

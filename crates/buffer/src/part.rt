@@ -2,6 +2,7 @@
 ghost use mathlib.Core.Path.{_≡_};
 ghost use Prim.Native.Nat.{_+_, _≤_};
 ghost use lib.ListN.{length};
+ghost use Rattle.bus.specs.Part.{partValid};
 ghost use Rattle.bus.specs.Automaton.{byted};
 ghost use Rattle.buffer.specs.Private.{heardByte};
 ghost use Rattle.buffer.specs.Layout.{partForm};
@@ -31,6 +32,24 @@ pub fn load_part(s: &[u8], o: usize) -> Part
         clocked: clocked,
         reply: reply,
     }
+}
+
+// Whether that is valid, from phase, count and clocked alone.
+pub fn part_valid_at(s: &[u8], o: usize) -> bool
+    requires { ⌜ o + 22 ≤ length (now s) ⌝ }
+    ensures { λ r. ⌜ r ≡ partValid (partForm .get (now (s .entry)) o) ⌝ }
+{
+    let o1 = o + 1;
+    let o2 = o1 + 1;
+    let o3 = o2 + 11;
+    let p = Part {
+        phase: s[o],
+        count: s[o1],
+        bytes: [0; 11],
+        clocked: s[o3],
+        reply: [0; 8],
+    };
+    bus::part_valid(p)
 }
 
 pub fn save_part(s: &mut [u8], o: usize, p: Part)

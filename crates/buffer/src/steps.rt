@@ -16,20 +16,23 @@ use super::page_record::load_page;
 use super::pages;
 use super::part::keep;
 use super::part::load_part;
+use super::part::part_valid_at;
 use super::part::save_part;
 use super::stopping;
 use super::unpaged_part::load_unpaged;
+use super::unpaged_part::unpaged_valid_at;
 
 fn holds_valid(s: &[u8]) -> bool
     requires { ⌜ length (now s) ≡ size ⌝ }
     ensures { λ r. ⌜ r ≡ stateValid (decode (now (s .entry))) ⌝ }
 {
-    let p = load_part(s, 0);
-    let u = load_unpaged(s, super::UNPAGED);
-    let part = bus::part_valid(p);
-    let unpaged = unpaged::unpaged_valid(8, u);
-    let pages = pages::all_valid(s);
-    part & (unpaged & pages)
+    if !part_valid_at(s, 0) {
+        return false;
+    }
+    if !unpaged_valid_at(s, super::UNPAGED) {
+        return false;
+    }
+    pages::all_valid(s)
 }
 
 // The right length, and a state that gets no 15.

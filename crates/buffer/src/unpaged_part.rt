@@ -2,6 +2,7 @@
 ghost use mathlib.Core.Path.{_≡_};
 ghost use Prim.Native.Nat.{_+_, _≤_};
 ghost use lib.ListN.{length};
+ghost use Rattle.unpaged.specs.Unpaged.{unpagedValid};
 ghost use Rattle.buffer.specs.Layout.{accountForm, unpagedForm};
 use super::leaf::long_at;
 use super::leaf::mark_at;
@@ -60,6 +61,19 @@ pub fn load_unpaged(s: &[u8], o: usize) -> Unpaged
         alert: alert,
         energy: energy,
     }
+}
+
+// Whether that is valid, from PAGE, WRITE_PROTECT and the account alone.
+pub fn unpaged_valid_at(s: &[u8], o: usize) -> bool
+    requires { ⌜ o + 12 ≤ length (now s) ⌝ }
+    ensures { λ r. ⌜ r ≡ unpagedValid 8 (unpagedForm .get (now (s .entry)) o) ⌝ }
+{
+    let o1 = o + 1;
+    let o2 = o1 + 1;
+    let o3 = o2 + 1;
+    let o4 = o3 + 1;
+    let energy = load_account(s, o4);
+    unpaged::valid_page(8, s[o]) & unpaged::valid_protect(s[o1]) & account::account_valid(energy)
 }
 
 pub fn save_unpaged(s: &mut [u8], o: usize, u: Unpaged)
