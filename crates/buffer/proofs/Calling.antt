@@ -16,9 +16,11 @@ use Rattle.page.specs.Page.{noPage, powerOnPage}
 use Rattle.page.specs.Causes.{ticked}
 use Rattle.page.specs.Status.{anyStatus, risen, supplies}
 use Rattle.unpaged.specs.declared.Unpaged.{Unpaged}
-use Rattle.unpaged.specs.Unpaged.{actsOn, everyPage, refused, cmlBits}
+use Rattle.unpaged.specs.Unpaged.{actsOn, everyPage, refused, cmlBits, shown}
 use Rattle.writes.specs.declared.asked.Write.{Write}
 use Rattle.writes.specs.Asked.{asked}
+use Rattle.writes.specs.declared.answers.Judged.{Judged}
+use Rattle.writes.specs.Answers.{writeAnswer}
 use Rattle.writes.specs.Left.{pageLeft}
 use Rattle.reads.specs.Answers.{readAnswer}
 use Rattle.reads.specs.Reply.{stream, streamOf, replyOf, alertStream}
@@ -28,10 +30,10 @@ use Rattle.device.specs.declared.Done.{Done}
 use Rattle.device.specs.Device.{device}
 use Rattle.device.specs.Step.{Call, write, read, measure, alertResponse, tick, answerOf, answered, refusedDevice, done, step}
 use Rattle.device.specs.Supply.{suppliesAt}
+use Rattle.device.specs.Touches.{touches}
 use Rattle.device.proofs.States.{answered-of}
 use Rattle.device.proofs.Refused.{device-stays}
 use Rattle.device.proofs.Calls.{stepped, read-left, valid-page, one-small, measured-small}
-use Rattle.history.specs.Pages.{touches}
 use Rattle.lent.specs.declared.Outcome.{Outcome}
 use Rattle.lent.specs.declared.turns.Turn.{Turn}
 use Rattle.lent.specs.declared.turns.Sending.{Sending}
@@ -40,15 +42,18 @@ use Rattle.lent.proofs.Taken.{put-back, supplies-taken}
 use Rattle.lent.proofs.Outcomes.{swept, write-done, measure-done, tick-done}
 use Rattle.records.specs.Records.{surveyed}
 use Rattle.stream.specs.Stream.{eightValid}
-use Rattle.buffer.specs.Form.{array, getAll, storeAll, FitAll}
-use Rattle.buffer.specs.Layout.{unpagedForm, pageForm, pagesIn, pageWide, pagesFrom, size, unpagedAt}
-use Rattle.buffer.specs.Buffer.{deviceOf, stores, storePages, storeDevice}
+use Rattle.layout.specs.Form.{array, getAll, storeAll, FitAll}
+use Rattle.layout.specs.Layout.{unpagedForm, pageForm, pagesIn, pageWide, pagesFrom, size, unpagedAt}
+use Rattle.layout.specs.State.{deviceOf}
+use Rattle.layout.proofs.Laws.{page-back, array-back}
+use Rattle.layout.proofs.Places.{read-back}
+use Rattle.layout.proofs.Shapes.{Shape, shape-fits, got-shape}
+use Rattle.layout.proofs.EightPages.{wide, page-set, page-length, page-shape}
+use Rattle.layout.proofs.Decoded.{device-is, unpaged-of, pages-of}
+use Rattle.buffer.specs.Buffer.{stores, storePages, storeDevice}
 use Rattle.buffer.specs.Private.{storeUnpaged, Held, Answers}
-use Rattle.buffer.proofs.Laws.{page-back, array-back}
-use Rattle.buffer.proofs.Places.{read-back}
-use Rattle.buffer.proofs.Shapes.{Shape, shape-fits, got-shape, left-shape}
-use Rattle.buffer.proofs.EightPages.{wide, page-set, page-length, page-shape}
-use Rattle.buffer.proofs.Held.{device-is, unpaged-of, pages-of, all-seen}
+use Rattle.buffer.proofs.Rules.{left-shape}
+use Rattle.buffer.proofs.Held.{all-seen, shown-taken}
 use Rattle.buffer.proofs.Stored.{none-stored, every-stored, one-at, refused-none}
 
 -- an outcome beside pages, by its parts
@@ -201,9 +206,9 @@ module _ (s : List ℕ) (h : Held s) (u : Unpaged) (eu : u ≡ unpagedForm .get 
     unfolding acceptedTurn
     every-is = ap (λ (x : Turn). x .every) t-is
 
-    page-is : t .page ≡ pageLeft (asked bytes) p
+    page-is : everyPage u ≡ false → t .page ≡ pageLeft (asked bytes) p
     unfolding acceptedTurn
-    page-is = ap (λ (x : Turn). x .page) t-is
+    page-is one = ap (λ (x : Turn). x .page) t-is ∙ rw one
 
     acts : (i : ℕ) → stores (deviceOf s) (write bytes) i ≡ (eqb i (u .page) || everyPage u)
     unfolding stores touches actsOn
@@ -232,7 +237,7 @@ module _ (s : List ℕ) (h : Held s) (u : Unpaged) (eu : u ≡ unpagedForm .get 
         let w = asked bytes in
         let k = u .page in
         let small : k < 8 = rw (unpaged-of s ∙ sym eu, pages-of s) at (one-small d (valid-page d (h .valid)) (ap everyPage (unpaged-of s ∙ sym eu) ∙ one)) in
-        let shape : Shape (t .page) = rw (page-is, ep) (left-shape w _ (page-shape s k powerOnPage small)) in
+        let shape : Shape (t .page) = rw (page-is one, ep) (left-shape w _ (page-shape s k powerOnPage small)) in
         let same : onePut s bytes u t ≡ pageForm .store s (pagesFrom + pageWide * k) (t .page) = rw (eq-eqb (answered d (write bytes)) 0 z, lt-ltb k 8 small) in
         let off : t .every ≡ false = every-is ∙ one in
         let back : pagesIn (onePut s bytes u t) ≡ set (pagesIn s) k (t .page) = ap pagesIn same ∙ page-set s k small (h .long) (t .page) shape in
@@ -259,17 +264,17 @@ module _ (s : List ℕ) (h : Held s) (u : Unpaged) (eu : u ≡ unpagedForm .get 
 module _ (s : List ℕ) (h : Held s) (u : Unpaged) (eu : u ≡ unpagedForm .get s unpagedAt) (bytes : List ℕ) (p : Page) (w : Write) (t : Turn) (m n : List ℕ) (rose standing : Bool) (o : Outcome)
     (ep : p ≡ getD (pagesIn s) (u .page) powerOnPage)
     (ew : w ≡ asked bytes)
-    (et : (ps : List Page) → eightValid ≡ surveyed ps → t ≡ writeTurn u p (answered (device u ps) (write bytes)) w)
+    (et : t ≡ writeTurn u p (answered (deviceOf s) (write bytes)) w)
     (em : m ≡ putBack s (t .outcome .answer) (u .page) (t .page))
     (er : rose ≡ (t .every && anyPair risen (pagesIn m) (map (pageLeft w) (pagesIn m))))
     (en : n ≡ everyStored m (t .every) w)
     (es : standing ≡ (t .clears && anyOf anyStatus (pagesIn n)))
     (eo : o ≡ finished (t .outcome) (t .clears) rose standing) where
   turned : t ≡ writeTurn u p (answered (device u (pagesIn s)) (write bytes)) w
-  turned = et (pagesIn s) (all-seen s h)
+  turned = et ∙ ap (λ (x : Device). writeTurn u p (answered x (write bytes)) w) (sym (same-device s h u eu))
 
   turn-is : t ≡ writeTurn u p (answered (deviceOf s) (write bytes)) (asked bytes)
-  turn-is = turned ∙ ap₂ (λ (x : Device) (y : Write). writeTurn u p (answered x (write bytes)) y) (same-device s h u eu) ew
+  turn-is = et ∙ ap (writeTurn u p (answered (deviceOf s) (write bytes))) ew
 
   answer-given : t .outcome .answer ≡ answered (deviceOf s) (write bytes)
   unfolding writeTurn acceptedTurn refusedOutcome
@@ -297,17 +302,44 @@ module _ (s : List ℕ) (h : Held s) (u : Unpaged) (eu : u ≡ unpagedForm .get 
   written-beside : beside o (pagesIn n) ≡ step (deviceOf s) (write bytes) .done
   written-beside =
       ap (λ (x : Outcome). beside x (pagesIn n)) eo
-      ∙ write-done u (pagesIn s) bytes p w t (pagesIn m) (pagesIn n) rose standing ep ew turned (ap pagesIn m-is ∙ seen .back) er swept-are es
+      ∙ write-done u (pagesIn s) bytes p w t (pagesIn m) (pagesIn n) rose standing ep (λ z. ew) turned (ap pagesIn m-is ∙ seen .back) er swept-are es
       ∙ ap (λ (d : Device). step d (write bytes) .done) (same-device s h u eu)
 
-  pub written-made : (r : List ℕ) → r ≡ unpagedForm .store n unpagedAt (o .unpaged)
+  asked-made : (r : List ℕ) → r ≡ unpagedForm .store n unpagedAt (o .unpaged)
       → (o .answer ≡ step (deviceOf s) (write bytes) .done .answer)
       × (r ≡ storeDevice (stores (deviceOf s) (write bytes)) s (step (deviceOf s) (write bytes) .done .device))
-  written-made r e = (
+  asked-made r e = (
     answer-is (deviceOf s) (write bytes) o (pagesIn n) written-beside,
     device-stored (deviceOf s) (write bytes) o (pagesIn n) written-beside s n r
         (n-is ∙ seen .whole ∙ ap (storePages (stores (deviceOf s) (write bytes)) s pagesFrom) (ap pagesIn (sym n-is))) e,
   )
+
+-- where the write is refused it does not matter what it asks for
+module _ (s : List ℕ) (h : Held s) (u : Unpaged) (eu : u ≡ unpagedForm .get s unpagedAt) (bytes : List ℕ) (p : Page) (j : Judged) (t : Turn) (m n : List ℕ) (rose standing : Bool) (o : Outcome)
+    (ep : p ≡ getD (pagesIn s) (u .page) powerOnPage)
+    (ej : (j .answer ≡ writeAnswer 8 u bytes) × (j .answer ≡ 0 → j .write ≡ asked bytes))
+    (et : t ≡ writeTurn u p (j .answer) (j .write))
+    (em : m ≡ putBack s (t .outcome .answer) (u .page) (t .page))
+    (er : rose ≡ (t .every && anyPair risen (pagesIn m) (map (pageLeft (j .write)) (pagesIn m))))
+    (en : n ≡ everyStored m (t .every) (j .write))
+    (es : standing ≡ (t .clears && anyOf anyStatus (pagesIn n)))
+    (eo : o ≡ finished (t .outcome) (t .clears) rose standing) where
+  judged-answer : j .answer ≡ answered (deviceOf s) (write bytes)
+  unfolding answerOf
+  judged-answer = ej .0 ∙ rw (answered-of (deviceOf s) (write bytes) (h .valid), unpaged-of s, pages-of s, eu)
+
+  pub written-made : (r : List ℕ) → r ≡ unpagedForm .store n unpagedAt (o .unpaged)
+      → (o .answer ≡ step (deviceOf s) (write bytes) .done .answer)
+      × (r ≡ storeDevice (stores (deviceOf s) (write bytes)) s (step (deviceOf s) (write bytes) .done .device))
+  unfolding writeTurn
+  written-made r e =
+      let a = answered (deviceOf s) (write bytes) in
+      let turned : t ≡ writeTurn u p a (j .write) = et ∙ ap (λ (x : ℕ). writeTurn u p x (j .write)) judged-answer in
+      either (eqb a 0)
+      (λ y. asked-made s h u eu bytes p (j .write) t m n rose standing o ep (ej .1 (judged-answer ∙ eqb-true a 0 y)) turned em er en es eo r e)
+      (λ f. let t-is : t ≡ turn (refusedOutcome u a) p false false = turned ∙ rw f in
+      let off : t .every ≡ false = ap (λ (x : Turn). x .every) t-is in
+      asked-made s h u eu bytes p (asked bytes) t m n rose standing o ep refl (t-is ∙ rw f) em (er ∙ rw off) (en ∙ rw off) es eo r e)
 
 -- ---- a tick
 
@@ -334,10 +366,12 @@ pub refused-made : (s : List ℕ) → Held s → (u v : Unpaged) (a : ℕ) (t : 
 unfolding refusedDevice
 refused-made s h u v a t eu ev et = et ∙ ap (unpagedForm .store s unpagedAt) (ev ∙ ap (λ (x : Unpaged). refused x a) (eu ∙ sym (unpaged-of s)))
 
-module _ (s : List ℕ) (h : Held s) (u : Unpaged) (eu : u ≡ unpagedForm .get s unpagedAt) (header : List ℕ) (n a : ℕ) (ea : a ≡ readAnswer u header n) where
+module _ (s : List ℕ) (h : Held s) (u : Unpaged) (eu : u ≡ unpagedForm .get s unpagedAt) (header : List ℕ) (n a : ℕ)
+    (i : ℕ) (ei : i ≡ shown u) (p : Page) (ep : p ≡ getD (pagesIn s) i powerOnPage) (ea : a ≡ readAnswer u p header n) where
   read-answered : a ≡ answered (deviceOf s) (read header n)
   unfolding answerOf
-  read-answered = ea ∙ ap (λ (x : Unpaged). readAnswer x header n) (eu ∙ sym (unpaged-of s)) ∙ sym (answered-of (deviceOf s) (read header n) (h .valid))
+  read-answered =
+      ea ∙ ap₂ (λ (x : Unpaged) (q : Page). readAnswer x q header n) (eu ∙ sym (unpaged-of s)) (shown-taken s h u eu i ei p ep) ∙ sym (answered-of (deviceOf s) (read header n) (h .valid))
 
   pub read-made : (t : List ℕ) → t ≡ storeUnpaged s (refusedDevice (deviceOf s) a)
       → (a ≡ step (deviceOf s) (read header n) .done .answer) × (t ≡ storeUnpaged s (step (deviceOf s) (read header n) .done .device))

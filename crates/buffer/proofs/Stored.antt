@@ -12,12 +12,12 @@ use Rattle.page.specs.declared.Page.{Page}
 use Rattle.page.specs.Page.{noPage}
 use Rattle.device.specs.declared.Device.{Device}
 use Rattle.device.specs.Step.{Call, answered}
-use Rattle.history.specs.Pages.{touches}
-use Rattle.buffer.specs.Form.{storeAll}
-use Rattle.buffer.specs.Layout.{unpagedForm, pageForm, pageWide, pagesFrom, unpagedAt}
+use Rattle.device.specs.Touches.{touches}
+use Rattle.layout.specs.Form.{storeAll}
+use Rattle.layout.specs.Layout.{unpagedForm, pageForm, pageWide, pagesFrom, unpagedAt}
+use Rattle.layout.proofs.EightPages.{wide}
 use Rattle.buffer.specs.Buffer.{storePages, storeDevice, stores}
 use Rattle.buffer.specs.Private.{storeUnpaged}
-use Rattle.buffer.proofs.EightPages.{wide}
 
 pub none-stored : (t : ℕ → Bool) (s : List ℕ) (o : ℕ) (l : List Page) → ((i : ℕ) → t i ≡ false) → storePages t s o l ≡ s
 none-stored t s o [] h = refl

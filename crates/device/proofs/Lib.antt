@@ -6,3 +6,4 @@ pub mod Calls
 pub mod EveryPage
 pub mod Range
 pub mod Written
+pub mod Touches

@@ -13,7 +13,7 @@ use Rattle.page.specs.Choice.{PageChoice, usualPage, pageGranted, chosenPage}
 use Rattle.page.specs.Settings.{pageValid}
 use Rattle.page.specs.Status.{any, anyStatus, gains, risen}
 use Rattle.unpaged.specs.declared.Unpaged.{Unpaged}
-use Rattle.unpaged.specs.Unpaged.{powerOnUnpaged, unpagedValid, withAlert}
+use Rattle.unpaged.specs.Unpaged.{powerOnUnpaged, unpagedValid, withAlert, shown}
 use Rattle.device.specs.declared.Device.{Device}
 
 abbrev pub device : Unpaged → List Page → Device
@@ -57,6 +57,10 @@ deviceValid d = supported (length (d .pages)) && unpagedValid (length (d .pages)
 -- page i; a call that gets this far has it
 abbrev pub pageOf : Device → ℕ → Page
 pageOf d i = getD (d .pages) i noPage
+
+-- the page that a read looks at
+abbrev pub pageShown : Device → Page
+pageShown d = pageOf d (shown (d .unpaged))
 
 -- some bit of STATUS_CML or of a page's four registers is 1,
 abbrev pub standing : Device → Bool

@@ -60,9 +60,11 @@ pub fn read(d: Device, header: &[u8], reply: &mut [u8]) -> Done
     let n = reply.len();
     let u = d.unpaged;
     let valid = answers::device_valid(d);
-    let rule = reads::answers::read_answer(u, header, n);
+    let p = steps::page_shown(d);
+    let request = reads::request::request_of(header);
+    let rule = reads::answers::request_answer(u, p, request, n);
     let answer = answers::answered(valid, rule);
-    let stream = steps::read_stream(d, answer, header, n);
+    let stream = reads::data::read_stream(u, p, answer, request, header);
     reads::reply::send(reply, stream);
     let next = answers::refused(d, answer);
     Done {

@@ -21,13 +21,14 @@ use Rattle.page.specs.Choice.{usualPage, chosenPage}
 use Rattle.page.specs.Status.{reading}
 use Rattle.page.proofs.Chosen.{chosen-reading}
 use Rattle.unpaged.specs.declared.Unpaged.{Unpaged}
-use Rattle.unpaged.specs.Unpaged.{everyPage, actsOn, powerOnUnpaged}
-use Rattle.reads.specs.Answers.{readAnswer, headerAnswer, entryAnswer}
+use Rattle.unpaged.specs.Unpaged.{everyPage, actsOn, shown, powerOnUnpaged}
+use Rattle.reads.specs.Request.{plainOf, addressedOf, requestOf}
+use Rattle.reads.specs.Answers.{dataAnswer, requestAnswer, readAnswer}
 use Rattle.reads.specs.Data.{wordBytes, readData}
 use Rattle.reads.specs.Replies.{RepliesFollow}
 use Rattle.reads.proofs.Replies.{replies-follow}
 use Rattle.device.specs.declared.Device.{Device}
-use Rattle.device.specs.Device.{Choice, numberOf, choiceAt, supported, powerOn, deviceValid, pageOf}
+use Rattle.device.specs.Device.{Choice, numberOf, choiceAt, supported, powerOn, deviceValid, pageOf, pageShown}
 use Rattle.device.specs.Step.{Call, write, read, answerOf, sent, step}
 use Rattle.device.proofs.States.{answered-of}
 use Rattle.device.proofs.PowerOn.{powered, powered-sized, granted-number}
@@ -54,12 +55,19 @@ open-for u code i n ok small h =
     let few = ltb-true n 97 (and-eq-true-iff (ltb 0 n) (ltb n 97) .0 ok .1) in
     rw (ne-eqb (u .page) 0xFF (λ e. omega arith)))
 
+-- and it is the page shown
+shows : (u : Unpaged) (i n : ℕ) → supported n ≡ true → i < n → u .page ≡ i → shown u ≡ i
+unfolding supported shown
+shows u i n ok small there =
+    let few = ltb-true n 97 (and-eq-true-iff (ltb 0 n) (ltb n 97) .0 ok .1) in
+    rw (ne-eqb (u .page) 0xFF (λ e. omega arith)) there
+
 module _ (d : Device) (v : deviceValid d ≡ true) (code : ℕ) (small : code < 256) (readable : lookup code .read ≡ true) (one : (everyPage (d .unpaged) && paged code) ≡ false) where
   abbrev c : Call
   c = read (0xC0 ∷ code ∷ 0xC1 ∷ []) (lookup code .length)
 
-  answers : readAnswer (d .unpaged) (0xC0 ∷ code ∷ 0xC1 ∷ []) (lookup code .length) ≡ 0
-  unfolding readAnswer headerAnswer entryAnswer
+  answers : readAnswer (d .unpaged) (pageShown d) (0xC0 ∷ code ∷ 0xC1 ∷ []) (lookup code .length) ≡ 0
+  unfolding readAnswer requestOf addressedOf plainOf requestAnswer dataAnswer
   answers =
       let k = lookup code .length in
       rw (readable, one, le-ltb k k (omega arith), le-ltb (k + 1) k (omega arith))
@@ -68,14 +76,14 @@ module _ (d : Device) (v : deviceValid d ≡ true) (code : ℕ) (small : code < 
   unfolding step answerOf
   read-answer = answered-of d c v ∙ answers
 
-  read-reply : step d c .reply ≡ readData (d .unpaged) (pageOf d (d .unpaged .page)) (commandOf code)
+  read-reply : step d c .reply ≡ readData (d .unpaged) (pageShown d) (commandOf code)
   unfolding step answerOf sent RepliesFollow Bytes
   read-reply =
       rw (answered-of d c v)
-      (replies-follow (d .unpaged) (pageOf d (d .unpaged .page)) (0xC0 ∷ code ∷ 0xC1 ∷ []) (lookup code .length)
+      (replies-follow (d .unpaged) (pageShown d) (0xC0 ∷ code ∷ 0xC1 ∷ []) (lookup code .length)
       (omega arith, (small, (omega arith, tt))) .plain answers refl)
 
-  reads-data : (bytes : List ℕ) → readData (d .unpaged) (pageOf d (d .unpaged .page)) (commandOf code) ≡ bytes → Reads d code bytes
+  reads-data : (bytes : List ℕ) → readData (d .unpaged) (pageShown d) (commandOf code) ≡ bytes → Reads d code bytes
   reads-data bytes e = record { accepted = read-answer; reply = read-reply ∙ e }
 
 -- ---- runs
@@ -152,7 +160,7 @@ module _ (m : ℕ) (h : m < length stored) where
   unfolding lookup table entryOf
   stored-read = agree-test (λ m. lookup (storedAt m .0) .read) (λ m. true) 21 tt m h
 
-module _ (x : Choice) (cs : List Call) (i : ℕ) (b : AllOnBus cs) (small : i < numberOf x) (code : ℕ) (start : List ℕ) where
+module _ (x : Choice) (cs : List Call) (i : ℕ) (b : AllOnBus cs) (ok : supported (numberOf x) ≡ true) (small : i < numberOf x) (code : ℕ) (start : List ℕ) where
   abbrev after : Device
   after = reached x cs
 
@@ -163,15 +171,15 @@ module _ (x : Choice) (cs : List Call) (i : ℕ) (b : AllOnBus cs) (small : i < 
   due = latest (stores i code) writtenData (powerOn x) cs start
 
   reads-field : Field code → readData powerOnUnpaged at-start (commandOf code) ≡ start → (isUnpaged code || eqb (after .unpaged .page) i) ≡ true
-      → readData (after .unpaged) (pageOf after (after .unpaged .page)) (commandOf code) ≡ due
+      → readData (after .unpaged) (pageShown after) (commandOf code) ≡ due
   unfolding powerOnUnpaged
   reads-field (onPage f) e selected =
       let there : after .unpaged .page ≡ i = eqb-true (after .unpaged .page) i (rw (f .paged) at selected) in
-      f .shown (after .unpaged) (pageOf after (after .unpaged .page))
-      ∙ ap (λ (j : ℕ). f .get (pageOf after j)) there ∙ stored-page x cs i small code f b
+      f .shown (after .unpaged) (pageShown after)
+      ∙ ap (λ (j : ℕ). f .get (pageOf after j)) (shows (after .unpaged) i (numberOf x) ok small there) ∙ stored-page x cs i small code f b
       ∙ ap (latest (stores i code) writtenData (powerOn x) cs) (sym (f .shown powerOnUnpaged at-start) ∙ e)
   reads-field (onDevice f) e selected =
-      f .shown (after .unpaged) (pageOf after (after .unpaged .page)) ∙ stored-device x cs i small code f
+      f .shown (after .unpaged) (pageShown after) ∙ stored-device x cs i small code f
       ∙ ap (latest (stores i code) writtenData (powerOn x) cs) (sym (f .shown powerOnUnpaged at-start) ∙ e)
 
 pub written-back : WrittenBack
@@ -182,7 +190,7 @@ written-back x cs i m ok b small h selected =
     reads-data (reached x cs) (reached-valid x cs ok) (storedAt m .0) (stored-byte m h) (stored-read m h)
     (open-for (reached x cs .unpaged) (storedAt m .0) i (numberOf x) (granted-number x ok) small selected)
     (latest (stores i (storedAt m .0)) writtenData (powerOn x) cs (startsAs c (storedAt m)))
-    (reads-field x cs i b small (storedAt m .0) (startsAs c (storedAt m)) (r .field) (r .powered) selected)
+    (reads-field x cs i b (granted-number x ok) small (storedAt m .0) (startsAs c (storedAt m)) (r .field) (r .powered) selected)
 
 -- right after a write
 module _ (d : Device) (s : List ℕ) (z : answer d (write s) ≡ 0) (code : ℕ) (same : codeOf s ≡ code) where
@@ -203,14 +211,14 @@ module _ (d : Device) (s : List ℕ) (z : answer d (write s) ≡ 0) (code : ℕ)
       either (isUnpaged code) (λ y. rw y)
       (λ n. rw n (eq-eqb (e .unpaged .page) (d .unpaged .page) (same-page n)))
 
-  reads-it : Field code → AllSized d → d .unpaged .page < length (d .pages) → Bytes s
-      → readData (e .unpaged) (pageOf e (e .unpaged .page)) (commandOf code) ≡ writtenData (write s)
-  reads-it (onPage f) g small b =
-      f .shown (e .unpaged) (pageOf e (e .unpaged .page))
-      ∙ ap (λ (j : ℕ). f .get (pageOf e j)) (same-page (f .paged))
+  reads-it : Field code → AllSized d → supported (length (d .pages)) ≡ true → d .unpaged .page < length (d .pages) → Bytes s
+      → readData (e .unpaged) (pageShown e) (commandOf code) ≡ writtenData (write s)
+  reads-it (onPage f) g ok small b =
+      f .shown (e .unpaged) (pageShown e)
+      ∙ ap (λ (j : ℕ). f .get (pageOf e j)) (shows (e .unpaged) (d .unpaged .page) (length (d .pages)) ok small (same-page (f .paged)))
       ∙ page-steps d g (d .unpaged .page) small code f (write s) b ∙ rw stores-it
-  reads-it (onDevice f) g small b =
-      f .shown (e .unpaged) (pageOf e (e .unpaged .page)) ∙ device-steps d (d .unpaged .page) code f (write s) ∙ rw stores-it
+  reads-it (onDevice f) g ok small b =
+      f .shown (e .unpaged) (pageShown e) ∙ device-steps d (d .unpaged .page) code f (write s) ∙ rw stores-it
 
 pub write-then-read : WriteThenRead
 unfolding WriteThenRead ReachedValid
@@ -222,7 +230,7 @@ write-then-read x cs s m ok b h same small z =
     (reads-data (next d (write s)) (valid-after d (write s) (reached-valid x cs ok)) (storedAt m .0) (stored-byte m h) (stored-read m h)
     (open-for (next d (write s) .unpaged) (storedAt m .0) (d .unpaged .page) n (granted-number x ok) small (selected-still d s z (storedAt m .0) same))
     (writtenData (write s))
-    (reads-it d s z (storedAt m .0) same (each-at (Row usualPage) (0x00, []) stored (rows usualPage) m h .field) (k .sized) (rw (k .whole) small) b))
+    (reads-it d s z (storedAt m .0) same (each-at (Row usualPage) (0x00, []) stored (rows usualPage) m h .field) (k .sized) (rw (k .whole) (granted-number x ok)) (rw (k .whole) small) b))
 
 read-means : (q : ℕ) → q < 4 → commandOf (getD readCodes q 0) ≡ Reading q
 unfolding commandOf readingOf
@@ -251,6 +259,6 @@ measured-back x cs i q ok small few selected =
     reads-data d (reached-valid x cs ok) (getD readCodes q 0) (read-byte q few) (read-read q few)
     (open-for (d .unpaged) (getD readCodes q 0) i (numberOf x) (granted-number x ok) small (rw (eq-eqb (d .unpaged .page) i selected) (or-true (isUnpaged (getD readCodes q 0)))))
     (wordBytes (latest (measures i q) measuredWord (powerOn x) cs 0))
-    (read-data q few (d .unpaged) (pageOf d (d .unpaged .page))
-    ∙ ap (λ (j : ℕ). wordBytes (reading (pageOf d j) q)) selected
+    (read-data q few (d .unpaged) (pageShown d)
+    ∙ ap (λ (j : ℕ). wordBytes (reading (pageOf d j) q)) (shows (d .unpaged) i (numberOf x) (granted-number x ok) small selected)
     ∙ ap wordBytes (measured-word x cs i small q few))

@@ -18,13 +18,14 @@ use Rattle.device.specs.declared.Device.{Device}
 use Rattle.device.specs.Device.{Choice, numberOf, powerOn, pageOf}
 use Rattle.device.specs.Step.{Call, write, read, measure, sample, alertResponse, tick, effect, refusedDevice}
 use Rattle.device.proofs.PowerOn.{powered, powered-current}
+use Rattle.device.proofs.Touches.{written-pages, measured-pages, ticked-pages}
 use Rattle.history.specs.Run.{next, answer, run, reached, Whole}
 use Rattle.history.specs.Valid.{ReachedWhole}
 use Rattle.history.specs.Clearing.{clears}
 use Rattle.history.specs.Tripping.{untrips}
 use Rattle.history.specs.Retry.{rests}
 use Rattle.history.proofs.PageLeft.{PageLeft, kept, touched, timed}
-use Rattle.history.proofs.Outcomes.{done-next, refused-next, by-answer, write-next, written-pages, measured-pages, ticked-pages}
+use Rattle.history.proofs.Outcomes.{done-next, refused-next, by-answer, write-next}
 use Rattle.history.proofs.PageAfter.{timeOf, page-after}
 
 -- what each call preserves holds after every list of calls

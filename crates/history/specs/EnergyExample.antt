@@ -22,9 +22,10 @@ use Rattle.page.specs.Choice.{chosenPage}
 use Rattle.retry.specs.Machines.{allValid}
 use Rattle.cause.specs.Causes.{causes}
 use Rattle.page.specs.Settings.{pageValid, validOperation}
-use Rattle.unpaged.specs.Unpaged.{powerOnUnpaged, validPage, validProtect, unpagedValid, refused}
-use Rattle.reads.specs.Answers.{entryAnswer, headerAnswer, readAnswer, answersData}
-use Rattle.reads.specs.Data.{readData, checked, readStream}
+use Rattle.unpaged.specs.Unpaged.{powerOnUnpaged, validPage, validProtect, unpagedValid, refused, shown}
+use Rattle.reads.specs.Request.{plainOf, addressedOf, requestOf}
+use Rattle.reads.specs.Answers.{dataAnswer, requestAnswer, readAnswer, answersData}
+use Rattle.reads.specs.Data.{readData, requestData, checked, readStream}
 use Rattle.device.specs.Device.{usual, supported, chosenUnpaged, powerOn, deviceValid}
 use Rattle.device.specs.Step.{read, sample, answerOf, effect, left, sent, step}
 use Rattle.device.specs.Step as calls
@@ -84,6 +85,7 @@ unfolding
     turns TrueCopies CopiesOf AreCopies logAfter partOf logPart logCopies accountValid added sampled einBytes accountOf freshTotalizer
     energyReading replyCheck replyAnswer nextEnergy nextSamples booked totalize totalizing.added pec pecFrom pecByte pecBit table
     entryOf lookup commandOf readingOf powerOnPage pageValid validOperation allValid causes powerOnUnpaged validPage validProtect unpagedValid
-    refused entryAnswer headerAnswer readAnswer answersData readData checked readStream usual chosenPage chosenUnpaged powerOn supported deviceValid step
+    refused shown plainOf addressedOf requestOf dataAnswer requestAnswer readAnswer answersData readData requestData checked readStream usual chosenPage
+    chosenUnpaged powerOn supported deviceValid step
     answerOf calls.answered effect left sent
 copies-and-history = ((tt, (((is-changed, bytes), (tt, tt)), (tt, (tt, (tt, ((tt, (tt, tt)), tt)))))), refl)

@@ -15,12 +15,12 @@ use Rattle.device.specs.declared.Device.{Device}
 use Rattle.device.specs.declared.Done.{Done}
 use Rattle.device.specs.Device.{device, deviceValid}
 use Rattle.device.specs.Step.{Call, write, read, measure, sample, alertResponse, tick, sent, clocked, step}
+use Rattle.device.specs.Touches.{PagesStay}
 use Rattle.device.proofs.PowerOn.{usual-unpaged}
+use Rattle.device.proofs.Touches.{pages-stay}
 use Rattle.history.specs.Run.{next, answer}
 use Rattle.history.specs.Valid.{Fifteen}
 use Rattle.history.specs.Refusals.{Unchanged, silent}
-use Rattle.history.specs.Pages.{PagesStay}
-use Rattle.history.proofs.PageAfter.{pages-stay}
 use Rattle.history.proofs.Refusals.{unchanged}
 use Rattle.history.proofs.Runs.{same-length}
 use Rattle.history.proofs.Valid.{fifteen}

@@ -19,11 +19,13 @@ use Rattle.device.specs.Step.{Call, write, read, measure, sample, alertResponse
 use Rattle.device.proofs.PowerOn.{usual-granted}
 use Rattle.stream.specs.Stream.{State, state, stateValid, partNext, ended, beginAnswer, byteAck, byteSent, stopped, called, Turn, on, call, deviceNext, after, feed}
 use Rattle.stream.proofs.Fold.{fifteen-left}
-use Rattle.buffer.specs.Layout.{partForm, stateForm, size}
-use Rattle.buffer.specs.Buffer.{decode, encode, ready, partOf, deviceOf, stores, storeDevice, callFed, endStores, stopFed, partFed, takenOf, eventFed, powerFed, gives, refuses, eventGives, callGives, callSends, powerGives}
-use Rattle.buffer.proofs.Laws.{state-back}
-use Rattle.buffer.proofs.StoredPart.{idle-sized, part-length, part-decodes}
-use Rattle.buffer.proofs.Ending.{power-fits, whole-wide}
+use Rattle.layout.specs.Layout.{partForm, stateForm, size}
+use Rattle.layout.specs.State.{decode, encode, ready, partOf, deviceOf}
+use Rattle.layout.proofs.Laws.{state-back}
+use Rattle.layout.proofs.StoredPart.{idle-sized, part-length, part-decodes}
+use Rattle.layout.proofs.EightPages.{whole-wide}
+use Rattle.buffer.specs.Buffer.{stores, storeDevice, callFed, endStores, stopFed, partFed, takenOf, eventFed, powerFed, gives, refuses, eventGives, callGives, callSends, powerGives}
+use Rattle.buffer.proofs.Ending.{power-fits}
 use Rattle.traffic.specs.Runs.{NoFifteen}
 use Rattle.traffic.specs.Buffers.{Decodes, EventsDecode, CallsDecode, PowerDecodes, LengthStays, Given, GivesSame, LeftAlone, WrongLength, fedAll, BufferRuns, AlwaysReady}
 use Rattle.traffic.proofs.Runs.{no-fifteen}

@@ -28,11 +28,12 @@ use Rattle.bus.specs.Orders.{writeOrder, readOrder}
 use Rattle.unpaged.specs.Unpaged.{powerOnUnpaged, everyPage}
 use Rattle.writes.specs.Asked.{writeOf, asked, validSetting, validWrite}
 use Rattle.writes.specs.Answers.{permitted, dataAnswer, lengthAnswer, codeAnswer, addressedAnswer, writeAnswer}
-use Rattle.reads.specs.Answers.{entryAnswer, headerAnswer, readAnswer, answersData}
-use Rattle.reads.specs.Data.{wordBytes, readData, checked, readStream}
+use Rattle.reads.specs.Request.{plainOf, addressedOf, requestOf}
+use Rattle.reads.specs.Answers.{dataAnswer as clockedAnswer, requestAnswer, readAnswer, answersData}
+use Rattle.reads.specs.Data.{wordBytes, readData, requestData, checked, readStream}
 use Rattle.reads.specs.Reply.{replyOf}
 use Rattle.device.specs.declared.Device.{Device}
-use Rattle.device.specs.Device.{usual, supported, powerOn, deviceValid, pageOf}
+use Rattle.device.specs.Device.{usual, supported, powerOn, deviceValid, pageShown}
 use Rattle.device.specs.Step.{write, sample, answerOf, answered, effect, sent, step}
 use Rattle.device.proofs.States.{answered-of}
 use Rattle.device.proofs.PowerOn.{usual-number, usual-granted, usual-device, powered}
@@ -215,10 +216,11 @@ module _ (low high : ℕ) where
 -- a reply of two bytes shows the word, and the check over it is sent behind it
 vout-sent : (d : Device) (low high : ℕ) → Reads d 0x21 (low ∷ high ∷ [])
     → readSent d (headerOf 0x21) 8 ≡ low ∷ high ∷ pec (headerOf 0x21 ++ (low ∷ high ∷ [])) ∷ []
-unfolding step sent readStream answersData checked readData commandOf settingOf lookup table entryOf
+unfolding
+    step sent readStream answersData checked requestOf addressedOf plainOf requestData readData commandOf settingOf lookup table entryOf
 vout-sent d low high r =
     let two = r .reply in
-    let w = pageOf d (d .unpaged .page) .command in
+    let w = pageShown d .command in
     let data-is : wordBytes w ≡ low ∷ high ∷ [] = rw (r .accepted) at two in
     sent-any d (headerOf 0x21) 8 2 ∙ rw (r .accepted)
     (ap (λ (x : List ℕ). x ++ (pec (headerOf 0x21 ++ x) ∷ [])) data-is)
@@ -287,8 +289,8 @@ module _ (x : ℕ) (small : x < 32768) where
 ein-sent : (d : Device) → deviceValid d ≡ true
     → readSent d (headerOf 0x86) 8 ≡ einBytes (energyOf d) ++ (pec (headerOf 0x86 ++ einBytes (energyOf d)) ∷ [])
 unfolding
-    sent answered answerOf readAnswer headerAnswer entryAnswer paged readStream answersData checked readData commandOf
-    readingOf lookup table entryOf
+    sent answered answerOf readAnswer requestOf addressedOf plainOf requestAnswer clockedAnswer paged readStream answersData checked requestData readData
+    commandOf readingOf lookup table entryOf
 ein-sent d v = rw (v, and-false (everyPage (d .unpaged)))
 
 ein-reply : (ts : List Turn)

@@ -12,14 +12,15 @@ use Rattle.unpaged.specs.declared.Unpaged.{Unpaged}
 use Rattle.device.specs.declared.Device.{Device}
 use Rattle.device.specs.Device.{device, pageOf}
 use Rattle.stream.specs.Stream.{state}
-use Rattle.buffer.specs.Form.{getAll}
-use Rattle.buffer.specs.Layout.{partForm, accountForm, unpagedForm, pageForm, pagesIn, pagesFrom, size, unpagedAt}
-use Rattle.buffer.specs.Buffer.{decode, partOf, deviceOf, storePages, storeDevice}
-use Rattle.buffer.proofs.Laws.{unpaged-back, page-back}
-use Rattle.buffer.proofs.Places.{Local, all-local, part-local, page-local, read-back, below, above, store-length, get-at}
-use Rattle.buffer.proofs.Shapes.{Shape, shape-fits}
-use Rattle.buffer.proofs.EightPages.{wide, unpaged-wide, part-wide}
-use Rattle.buffer.proofs.Held.{part-of, device-is, pages-of}
+use Rattle.layout.specs.Form.{getAll}
+use Rattle.layout.specs.Layout.{partForm, accountForm, unpagedForm, pageForm, pagesIn, pagesFrom, size, unpagedAt}
+use Rattle.layout.specs.State.{decode, partOf, deviceOf}
+use Rattle.layout.proofs.Laws.{unpaged-back, unpaged-fits, page-back}
+use Rattle.layout.proofs.Places.{Local, all-local, part-local, page-local, read-back, below, above, store-length, get-at}
+use Rattle.layout.proofs.Shapes.{Shape, shape-fits}
+use Rattle.layout.proofs.EightPages.{wide, unpaged-wide, part-wide}
+use Rattle.layout.proofs.Decoded.{part-of, device-is, pages-of}
+use Rattle.buffer.specs.Buffer.{storePages, storeDevice}
 
 abbrev pub Shaped : List Page → Type 0
 Shaped [] = Unit
@@ -99,10 +100,6 @@ pages-back t s o (p ∷ l) h room same =
     ∙ sym (page-local m s (o + w + i * w) (λ j lo hi. one-above s o p (h .0) one (t 0) j (omega arith)))))
 
 -- ---- a device
-
-unpaged-fits : (u : Unpaged) → unpagedForm .Fits u
-unfolding unpagedForm accountForm
-unpaged-fits u = (tt, (tt, (tt, (tt, (tt, (tt, (tt, tt)))))))
 
 -- a device of eight pages that fit, those that fail the test as before
 pub record Storable (t : ℕ → Bool) (before d : Device) : Type 0 where

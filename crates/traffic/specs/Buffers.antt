@@ -11,8 +11,9 @@ use Rattle.bus.specs.Automaton.{Event, start, byte, again, clock, stop}
 use Rattle.device.specs.Device.{usual, powerOn}
 use Rattle.device.specs.Step.{Call}
 use Rattle.stream.specs.Stream.{State, state, beginAnswer, byteAck, byteSent, stopped, called, Turn, on, call, after, feed}
-use Rattle.buffer.specs.Layout.{stateForm, size}
-use Rattle.buffer.specs.Buffer.{decode, encode, ready, callFed, eventFed, powerFed, refuses, eventGives, callGives, callSends, powerGives}
+use Rattle.layout.specs.Layout.{stateForm, size}
+use Rattle.layout.specs.State.{decode, encode, ready}
+use Rattle.buffer.specs.Buffer.{callFed, eventFed, powerFed, refuses, eventGives, callGives, callSends, powerGives}
 
 -- ---- what is left of a buffer of the right length
 

@@ -1,13 +1,13 @@
 -- `buffer::calls::alert` meets its contract.
 -- Assumes nothing.
-use Rattle.buffer.specs.Layout.{size}
+use Rattle.layout.specs.Layout.{size}
 use lib.ListN.{length}
 use borrow.Author.Tests.{eq-eqb, ne-eqb}
 use mathlib.Core.Path.{sym, ap, _∙_}
 use mathlib.Core.Bool.{cond}
 use Rattle.unpaged.specs.declared.Unpaged.{Unpaged}
+use Rattle.layout.proofs.Decoded.{unpaged-of}
 use Rattle.buffer.specs.Buffer.{bufferAlert}
-use Rattle.buffer.proofs.Held.{unpaged-of}
 use native.Mathlib.Omega.{arith}
 use borrow.Author.Needs.{needs}
 use Rattle.buffer.proofs.calls.alert.Statement.{statement}

@@ -1,6 +1,6 @@
 -- `buffer::calls::power_on` meets its contract.
 -- Assumes nothing.
-use Rattle.buffer.specs.Layout.{size}
+use Rattle.layout.specs.Layout.{size}
 use lib.ListN.{length}
 use borrow.Author.Tests.{eq-eqb, ne-eqb}
 use Rattle.buffer.specs.Buffer.{powerGives, powerFed}

@@ -1,6 +1,6 @@
 -- `buffer::calls::supplies` meets its contract.
 -- Assumes nothing.
-use Rattle.buffer.specs.Layout.{size}
+use Rattle.layout.specs.Layout.{size}
 use lib.ListN.{length}
 use borrow.Author.Tests.{eq-eqb, ne-eqb}
 use mathlib.Core.Path.{ap, _∙_}
