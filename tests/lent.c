@@ -126,6 +126,7 @@ static void one_by_one(void) {
     number_lent(96);
     wrong_number(0);
     wrong_number(97);
+    wrong_number((size_t)1 << 40); /* more than the memory holds: no record is read */
     for (size_t number = 1; number <= 96; number += 5) {
         tongsorrel_unpaged unpaged = powered(number);
         scribble();

@@ -34,7 +34,7 @@ pub const SAMPLE_TOO_LARGE: u8 = 13;
 
 pub const ALERT_DOWN: u8 = 14;
 
-// The state handed in holds a value outside the range of PAGE, WRITE_PROTECT, OPERATION, a response or an account. Other fields are not tested.
+// The state handed in holds a value that gets 15: data sheet 12.2 has the list of fields and values.
 pub const INVALID_STATE: u8 = 15;
 
 // The totalizer.

@@ -7,7 +7,7 @@ use native.Mathlib.Omega.{arith}
 use lib.ListN.{take, drop}
 use lib.Seq.{take-add}
 use Rattle.device.specs.declared.Device.{Device}
-use Rattle.device.specs.Device.{powerOn}
+use Rattle.device.specs.Device.{usual, powerOn}
 use Rattle.frame.specs.Blocks.{Fed, feed}
 use Rattle.frame.proofs.Feeding.{feed-append}
 use Rattle.bench.specs.Held.{Leaves, Reached}
@@ -29,4 +29,4 @@ part-on d line n block at next h e line′ k p f line″ m q =
 pub reached-on : (d : Device) (line : List ℕ) (n : ℕ) (t : List ℕ) → Reached d line n → (f : Device) (line″ : List ℕ) (m : ℕ) → Leaves (feed d line n t) f line″ m
     → Reached f line″ m
 reached-on d line n t r f line″ m g =
-    (r .0, r .1 ++ t, fed-on (powerOn 8) (r .0) 0 (r .1) t d line n (r .2) f line″ m g)
+    (r .0, r .1 ++ t, fed-on (powerOn (usual 8)) (r .0) 0 (r .1) t d line n (r .2) f line″ m g)

@@ -8,7 +8,7 @@ use mathlib.Core.List.{List, [], _∷_}
 use lib.ListN.{take}
 use lib.Dec.{eqb}
 use Rattle.device.specs.declared.Device.{Device}
-use Rattle.device.specs.Device.{powerOn}
+use Rattle.device.specs.Device.{usual, powerOn}
 use Rattle.frame.specs.Blocks.{Fed, feed}
 
 -- characters that were fed leave so
@@ -17,7 +17,7 @@ Leaves f d line n = (f .device ≡ d) × (f .line ≡ line) × (f .length ≡ n)
 
 -- some characters, fed from power-on on, leave so
 abbrev pub Reached : Device → List ℕ → ℕ → Type 0
-Reached d line n = (start : List ℕ) × (s : List ℕ) × Leaves (feed (powerOn 8) start 0 s) d line n
+Reached d line n = (start : List ℕ) × (s : List ℕ) × Leaves (feed (powerOn (usual 8)) start 0 s) d line n
 
 -- the characters to run after a read that put so many into the block: those, and at the end of the input an LF for a line that has characters
 unfoldable pub toRun : ℕ → ℕ → List ℕ → List ℕ

@@ -16,9 +16,11 @@ use Rattle.page.specs.Page.{noPage, powerOnPage}
 use Rattle.page.specs.Causes.{ticked}
 use Rattle.page.specs.Status.{anyStatus, risen, supplies}
 use Rattle.unpaged.specs.declared.Unpaged.{Unpaged}
-use Rattle.unpaged.specs.Unpaged.{actsOn, everyPage, refused, cmlBits}
+use Rattle.unpaged.specs.Unpaged.{actsOn, everyPage, refused, cmlBits, shown}
 use Rattle.writes.specs.declared.asked.Write.{Write}
 use Rattle.writes.specs.Asked.{asked}
+use Rattle.writes.specs.declared.answers.Judged.{Judged}
+use Rattle.writes.specs.Answers.{writeAnswer}
 use Rattle.writes.specs.Left.{pageLeft}
 use Rattle.reads.specs.Answers.{readAnswer}
 use Rattle.reads.specs.Reply.{stream, streamOf, replyOf, alertStream}
@@ -28,10 +30,10 @@ use Rattle.device.specs.declared.Done.{Done}
 use Rattle.device.specs.Device.{device}
 use Rattle.device.specs.Step.{Call, write, read, measure, alertResponse, tick, answerOf, answered, refusedDevice, done, step}
 use Rattle.device.specs.Supply.{suppliesAt}
+use Rattle.device.specs.Touches.{touches}
 use Rattle.device.proofs.States.{answered-of}
 use Rattle.device.proofs.Refused.{device-stays}
 use Rattle.device.proofs.Calls.{stepped, read-left, valid-page, one-small, measured-small}
-use Rattle.history.specs.Pages.{touches}
 use Rattle.lent.specs.declared.Outcome.{Outcome}
 use Rattle.lent.specs.declared.turns.Turn.{Turn}
 use Rattle.lent.specs.declared.turns.Sending.{Sending}
@@ -40,15 +42,18 @@ use Rattle.lent.proofs.Taken.{put-back, supplies-taken}
 use Rattle.lent.proofs.Outcomes.{swept, write-done, measure-done, tick-done}
 use Rattle.records.specs.Records.{surveyed}
 use Rattle.stream.specs.Stream.{eightValid}
-use Rattle.buffer.specs.Form.{array, getAll, storeAll, FitAll}
-use Rattle.buffer.specs.Layout.{unpagedForm, pageForm, pagesIn}
-use Rattle.buffer.specs.Buffer.{deviceOf, stores, storePages, storeDevice}
+use Rattle.layout.specs.Form.{array, getAll, storeAll, FitAll}
+use Rattle.layout.specs.Layout.{unpagedForm, pageForm, pagesIn, pageWide, pagesFrom, size, unpagedAt}
+use Rattle.layout.specs.State.{deviceOf}
+use Rattle.layout.proofs.Laws.{page-back, array-back}
+use Rattle.layout.proofs.Places.{read-back}
+use Rattle.layout.proofs.Shapes.{Shape, shape-fits, got-shape}
+use Rattle.layout.proofs.EightPages.{wide, page-set, page-length, page-shape}
+use Rattle.layout.proofs.Decoded.{device-is, unpaged-of, pages-of}
+use Rattle.buffer.specs.Buffer.{stores, storePages, storeDevice}
 use Rattle.buffer.specs.Private.{storeUnpaged, Held, Answers}
-use Rattle.buffer.proofs.Laws.{page-back, array-back}
-use Rattle.buffer.proofs.Places.{read-back}
-use Rattle.buffer.proofs.Shapes.{Shape, shape-fits, got-shape, left-shape}
-use Rattle.buffer.proofs.EightPages.{wide, page-set, page-length, page-shape}
-use Rattle.buffer.proofs.Held.{device-is, unpaged-of, pages-of, all-seen}
+use Rattle.buffer.proofs.Rules.{left-shape}
+use Rattle.buffer.proofs.Held.{all-seen, shown-taken}
 use Rattle.buffer.proofs.Stored.{none-stored, every-stored, one-at, refused-none}
 
 -- an outcome beside pages, by its parts
@@ -63,17 +68,17 @@ module _ (d : Device) (c : Call) (r : Outcome) (zs : List Page) (e : beside r zs
   pages-are = ap (λ (x : Done). x .device .pages) e
 
   -- the unpaged part stored alone, and behind pages that are stored
-  pub unpaged-stored : (s t : List ℕ) → t ≡ unpagedForm .store s 22 (r .unpaged) → t ≡ storeUnpaged s (step d c .done .device)
-  unpaged-stored s t f = f ∙ ap (unpagedForm .store s 22) unpaged-is
+  pub unpaged-stored : (s t : List ℕ) → t ≡ unpagedForm .store s unpagedAt (r .unpaged) → t ≡ storeUnpaged s (step d c .done .device)
+  unpaged-stored s t f = f ∙ ap (unpagedForm .store s unpagedAt) unpaged-is
 
-  pub device-stored : (s n t : List ℕ) → n ≡ storePages (stores d c) s 34 zs → t ≡ unpagedForm .store n 22 (r .unpaged)
+  pub device-stored : (s n t : List ℕ) → n ≡ storePages (stores d c) s pagesFrom zs → t ≡ unpagedForm .store n unpagedAt (r .unpaged)
       → t ≡ storeDevice (stores d c) s (step d c .done .device)
   unfolding storeDevice
   device-stored s n t f g =
-      g ∙ ap₂ (λ (m : List ℕ) (u : Unpaged). unpagedForm .store m 22 u) (f ∙ ap (storePages (stores d c) s 34) pages-are) unpaged-is
+      g ∙ ap₂ (λ (m : List ℕ) (u : Unpaged). unpagedForm .store m unpagedAt u) (f ∙ ap (storePages (stores d c) s pagesFrom) pages-are) unpaged-is
 
 -- what the rules of lent records say of eight valid pages, of the buffer's device
-module _ (s : List ℕ) (h : Held s) (u : Unpaged) (eu : u ≡ unpagedForm .get s 22) where
+module _ (s : List ℕ) (h : Held s) (u : Unpaged) (eu : u ≡ unpagedForm .get s unpagedAt) where
   pub same-device : device u (pagesIn s) ≡ deviceOf s
   same-device = ap (λ (v : Unpaged). device v (pagesIn s)) eu ∙ sym (device-is s)
 
@@ -83,21 +88,21 @@ module _ (s : List ℕ) (h : Held s) (u : Unpaged) (eu : u ≡ unpagedForm .get 
   kept-outcome c r f = f (pagesIn s) (all-seen s h) ∙ ap (λ (d : Device). step d c .done) same-device
 
 -- the pages that every page was stored over
-pages-stored : (s : List ℕ) (l : List Page) → length s ≡ 466 → length l ≡ 8 → FitAll pageForm l → pagesIn (storeAll pageForm s 34 l) ≡ l
-pages-stored s l long eight fit = read-back (array 8 pageForm) (array-back pageForm page-back 8) s 34 l (eight, fit) (rw wide (omega arith))
+pages-stored : (s : List ℕ) (l : List Page) → length s ≡ size → length l ≡ 8 → FitAll pageForm l → pagesIn (storeAll pageForm s pagesFrom l) ≡ l
+pages-stored s l long eight fit = read-back (array 8 pageForm) (array-back pageForm page-back 8) s pagesFrom l (eight, fit) (rw wide (omega arith))
 
 fit-map : (f : Page → Page) → ((x : Page) → Shape x → Shape (f x)) → (n : ℕ) (s : List ℕ) (o : ℕ) → FitAll pageForm (map f (getAll pageForm n s o))
 fit-map f keeps zero s o = tt
 fit-map f keeps (suc n) s o = (shape-fits _ (keeps _ (got-shape s o)), fit-map f keeps n s (o + pageForm .width))
 
-pub each-stored : (f : Page → Page) → ((x : Page) → Shape x → Shape (f x)) → (s : List ℕ) → length s ≡ 466
-    → pagesIn (storeAll pageForm s 34 (map f (pagesIn s))) ≡ map f (pagesIn s)
-each-stored f keeps s long = pages-stored s (map f (pagesIn s)) long refl (fit-map f keeps 8 s 34)
+pub each-stored : (f : Page → Page) → ((x : Page) → Shape x → Shape (f x)) → (s : List ℕ) → length s ≡ size
+    → pagesIn (storeAll pageForm s pagesFrom (map f (pagesIn s))) ≡ map f (pagesIn s)
+each-stored f keeps s long = pages-stored s (map f (pagesIn s)) long refl (fit-map f keeps 8 s pagesFrom)
 
 -- ---- one page put back, where the call is accepted
 
 abbrev pub putBack : List ℕ → ℕ → ℕ → Page → List ℕ
-putBack s a k q = cond (eqb a 0 && ltb k 8) (pageForm .store s (34 + 54 * k) q) s
+putBack s a k q = cond (eqb a 0 && ltb k 8) (pageForm .store s (pagesFrom + pageWide * k) q) s
 
 -- the page that an accepted call touches alone
 pub record Alone (d : Device) (c : Call) (k : ℕ) : Type 0 where
@@ -106,16 +111,16 @@ pub record Alone (d : Device) (c : Call) (k : ℕ) : Type 0 where
   pub others : (i : ℕ) → (i ≡ k → ⊥) → touches d c i ≡ false
 
 module _ (s : List ℕ) (d : Device) (c : Call) (k : ℕ) (q : Page) where
-  one-put : answered d c ≡ 0 → Alone d c k → putBack s (answered d c) k q ≡ storePages (stores d c) s 34 (set (pagesIn s) k q)
+  one-put : answered d c ≡ 0 → Alone d c k → putBack s (answered d c) k q ≡ storePages (stores d c) s pagesFrom (set (pagesIn s) k q)
   unfolding stores
   one-put z g =
       let y = eq-eqb (answered d c) 0 z in
       rw (y, lt-ltb k 8 (g .small))
       (sym (one-at (stores d c) s (set (pagesIn s) k q) k (rw (length-set (pagesIn s) k q) (g .small)) (rw y (g .this)) (λ i m. rw y (g .others i m))
-      ∙ ap (pageForm .store s (34 + 54 * k)) (getD-set-same (pagesIn s) k q noPage (g .small))))
+      ∙ ap (pageForm .store s (pagesFrom + pageWide * k)) (getD-set-same (pagesIn s) k q noPage (g .small))))
 
-  none-put : (l : List Page) → (answered d c ≡ 0 → ⊥) → putBack s (answered d c) k q ≡ storePages (stores d c) s 34 l
-  none-put l z = rw (ne-eqb (answered d c) 0 z) (sym (none-stored (stores d c) s 34 l (refused-none d c z)))
+  none-put : (l : List Page) → (answered d c ≡ 0 → ⊥) → putBack s (answered d c) k q ≡ storePages (stores d c) s pagesFrom l
+  none-put l z = rw (ne-eqb (answered d c) 0 z) (sym (none-stored (stores d c) s pagesFrom l (refused-none d c z)))
 
 answer-of : (d : Device) (c : Call) → step d c .done .answer ≡ answered d c
 unfolding step
@@ -123,7 +128,7 @@ answer-of d c = refl
 
 -- ---- a measurement
 
-module _ (s : List ℕ) (h : Held s) (u : Unpaged) (eu : u ≡ unpagedForm .get s 22) (k quantity word : ℕ) (p : Page) (t : Turn)
+module _ (s : List ℕ) (h : Held s) (u : Unpaged) (eu : u ≡ unpagedForm .get s unpagedAt) (k quantity word : ℕ) (p : Page) (t : Turn)
     (ep : p ≡ getD (pagesIn s) k powerOnPage)
     (et : (ps : List Page) → eightValid ≡ surveyed ps → t ≡ measureTurn u p (answered (device u ps) (measure k quantity word)) quantity word) where
   measured-beside : beside (t .outcome) (set (pagesIn s) k (t .page)) ≡ step (deviceOf s) (measure k quantity word) .done
@@ -139,7 +144,7 @@ module _ (s : List ℕ) (h : Held s) (u : Unpaged) (eu : u ≡ unpagedForm .get 
     others = λ i m. ne-eqb k i (λ e. m (sym e));
   }
 
-  pub measured-made : (m n : List ℕ) → m ≡ putBack s (t .outcome .answer) k (t .page) → n ≡ unpagedForm .store m 22 (t .outcome .unpaged)
+  pub measured-made : (m n : List ℕ) → m ≡ putBack s (t .outcome .answer) k (t .page) → n ≡ unpagedForm .store m unpagedAt (t .outcome .unpaged)
       → (t .outcome .answer ≡ step (deviceOf s) (measure k quantity word) .done .answer)
       × (n ≡ storeDevice (stores (deviceOf s) (measure k quantity word)) s (step (deviceOf s) (measure k quantity word) .done .device))
   measured-made m n em en =
@@ -158,7 +163,7 @@ module _ (s : List ℕ) (h : Held s) (u : Unpaged) (eu : u ≡ unpagedForm .get 
 -- ---- a write
 
 abbrev pub everyStored : List ℕ → Bool → Write → List ℕ
-everyStored m every w = cond every (storeAll pageForm m 34 (map (pageLeft w) (pagesIn m))) m
+everyStored m every w = cond every (storeAll pageForm m pagesFrom (map (pageLeft w) (pagesIn m))) m
 
 -- the buffer after the selected page was put back, and after every one was changed
 abbrev onePut : List ℕ → List ℕ → Unpaged → Turn → List ℕ
@@ -170,10 +175,10 @@ allPut s bytes u t = everyStored (onePut s bytes u t) (t .every) (asked bytes)
 -- what is found of the pages then
 record Found (s bytes : List ℕ) (u : Unpaged) (t : Turn) : Type 0 where
   back : pagesIn (onePut s bytes u t) ≡ set (pagesIn s) (u .page) (t .page)
-  long : length (onePut s bytes u t) ≡ 466
-  whole : allPut s bytes u t ≡ storePages (stores (deviceOf s) (write bytes)) s 34 (pagesIn (allPut s bytes u t))
+  long : length (onePut s bytes u t) ≡ size
+  whole : allPut s bytes u t ≡ storePages (stores (deviceOf s) (write bytes)) s pagesFrom (pagesIn (allPut s bytes u t))
 
-module _ (s : List ℕ) (h : Held s) (u : Unpaged) (eu : u ≡ unpagedForm .get s 22) (bytes : List ℕ) (p : Page) (t : Turn)
+module _ (s : List ℕ) (h : Held s) (u : Unpaged) (eu : u ≡ unpagedForm .get s unpagedAt) (bytes : List ℕ) (p : Page) (t : Turn)
     (ep : p ≡ getD (pagesIn s) (u .page) powerOnPage)
     (et : t ≡ writeTurn u p (answered (deviceOf s) (write bytes)) (asked bytes)) where
   found-refused : (answered (deviceOf s) (write bytes) ≡ 0 → ⊥) → Found s bytes u t
@@ -189,7 +194,7 @@ module _ (s : List ℕ) (h : Held s) (u : Unpaged) (eu : u ≡ unpagedForm .get 
       record {
         back = ap pagesIn same ∙ sym (ap (set (pagesIn s) (u .page)) (page ∙ ep) ∙ put-back powerOnPage (pagesIn s) (u .page));
         long = ap length same ∙ h .long;
-        whole = none ∙ sym (none-stored (stores d (write bytes)) s 34 (pagesIn (allPut s bytes u t)) (refused-none d (write bytes) z));
+        whole = none ∙ sym (none-stored (stores d (write bytes)) s pagesFrom (pagesIn (allPut s bytes u t)) (refused-none d (write bytes) z));
       }
 
   module _ (z : answered (deviceOf s) (write bytes) ≡ 0) where
@@ -201,9 +206,9 @@ module _ (s : List ℕ) (h : Held s) (u : Unpaged) (eu : u ≡ unpagedForm .get 
     unfolding acceptedTurn
     every-is = ap (λ (x : Turn). x .every) t-is
 
-    page-is : t .page ≡ pageLeft (asked bytes) p
+    page-is : everyPage u ≡ false → t .page ≡ pageLeft (asked bytes) p
     unfolding acceptedTurn
-    page-is = ap (λ (x : Turn). x .page) t-is
+    page-is one = ap (λ (x : Turn). x .page) t-is ∙ rw one
 
     acts : (i : ℕ) → stores (deviceOf s) (write bytes) i ≡ (eqb i (u .page) || everyPage u)
     unfolding stores touches actsOn
@@ -216,13 +221,13 @@ module _ (s : List ℕ) (h : Held s) (u : Unpaged) (eu : u ≡ unpagedForm .get 
         let far : 8 ≤ u .page = omega (arith, eqb-true (u .page) 0xFF y) in
         let same : onePut s bytes u t ≡ s = rw (le-ltb (u .page) 8 far, and-false (eqb (answered d (write bytes)) 0)) in
         let on : t .every ≡ true = every-is ∙ y in
-        let all : allPut s bytes u t ≡ storeAll pageForm s 34 (map (pageLeft w) (pagesIn s)) =
-        rw on (ap (λ (x : List ℕ). storeAll pageForm x 34 (map (pageLeft w) (pagesIn x))) same) in
+        let all : allPut s bytes u t ≡ storeAll pageForm s pagesFrom (map (pageLeft w) (pagesIn s)) =
+        rw on (ap (λ (x : List ℕ). storeAll pageForm x pagesFrom (map (pageLeft w) (pagesIn x))) same) in
         record {
           back = ap pagesIn same ∙ sym (set-out (pagesIn s) (u .page) (t .page) far);
           long = ap length same ∙ h .long;
-          whole = all ∙ ap (storeAll pageForm s 34) (sym (each-stored (pageLeft w) (left-shape w) s (h .long)) ∙ ap pagesIn (sym all))
-              ∙ sym (every-stored (stores d (write bytes)) s 34 (pagesIn (allPut s bytes u t)) (λ i. acts i ∙ rw (y, or-true (eqb i (u .page)))));
+          whole = all ∙ ap (storeAll pageForm s pagesFrom) (sym (each-stored (pageLeft w) (left-shape w) s (h .long)) ∙ ap pagesIn (sym all))
+              ∙ sym (every-stored (stores d (write bytes)) s pagesFrom (pagesIn (allPut s bytes u t)) (λ i. acts i ∙ rw (y, or-true (eqb i (u .page)))));
         }
 
     found-one : everyPage u ≡ false → Found s bytes u t
@@ -232,8 +237,8 @@ module _ (s : List ℕ) (h : Held s) (u : Unpaged) (eu : u ≡ unpagedForm .get 
         let w = asked bytes in
         let k = u .page in
         let small : k < 8 = rw (unpaged-of s ∙ sym eu, pages-of s) at (one-small d (valid-page d (h .valid)) (ap everyPage (unpaged-of s ∙ sym eu) ∙ one)) in
-        let shape : Shape (t .page) = rw (page-is, ep) (left-shape w _ (page-shape s k powerOnPage small)) in
-        let same : onePut s bytes u t ≡ pageForm .store s (34 + 54 * k) (t .page) = rw (eq-eqb (answered d (write bytes)) 0 z, lt-ltb k 8 small) in
+        let shape : Shape (t .page) = rw (page-is one, ep) (left-shape w _ (page-shape s k powerOnPage small)) in
+        let same : onePut s bytes u t ≡ pageForm .store s (pagesFrom + pageWide * k) (t .page) = rw (eq-eqb (answered d (write bytes)) 0 z, lt-ltb k 8 small) in
         let off : t .every ≡ false = every-is ∙ one in
         let back : pagesIn (onePut s bytes u t) ≡ set (pagesIn s) k (t .page) = ap pagesIn same ∙ page-set s k small (h .long) (t .page) shape in
         let all : allPut s bytes u t ≡ onePut s bytes u t = rw off in
@@ -245,7 +250,7 @@ module _ (s : List ℕ) (h : Held s) (u : Unpaged) (eu : u ≡ unpagedForm .get 
             this = rw (unpaged-of s ∙ sym eu, eq-eqb k k refl);
             others = λ i m. rw (unpaged-of s ∙ sym eu, ne-eqb i k m, one);
           })
-              ∙ ap (storePages (stores d (write bytes)) s 34) (sym (ap pagesIn all ∙ back));
+              ∙ ap (storePages (stores d (write bytes)) s pagesFrom) (sym (ap pagesIn all ∙ back));
         }
 
   found : Found s bytes u t
@@ -256,20 +261,20 @@ module _ (s : List ℕ) (h : Held s) (u : Unpaged) (eu : u ≡ unpagedForm .get 
       (λ o. found-refused (eqb-false a 0 o))
 
 -- the line of calls that ends a write
-module _ (s : List ℕ) (h : Held s) (u : Unpaged) (eu : u ≡ unpagedForm .get s 22) (bytes : List ℕ) (p : Page) (w : Write) (t : Turn) (m n : List ℕ) (rose standing : Bool) (o : Outcome)
+module _ (s : List ℕ) (h : Held s) (u : Unpaged) (eu : u ≡ unpagedForm .get s unpagedAt) (bytes : List ℕ) (p : Page) (w : Write) (t : Turn) (m n : List ℕ) (rose standing : Bool) (o : Outcome)
     (ep : p ≡ getD (pagesIn s) (u .page) powerOnPage)
     (ew : w ≡ asked bytes)
-    (et : (ps : List Page) → eightValid ≡ surveyed ps → t ≡ writeTurn u p (answered (device u ps) (write bytes)) w)
+    (et : t ≡ writeTurn u p (answered (deviceOf s) (write bytes)) w)
     (em : m ≡ putBack s (t .outcome .answer) (u .page) (t .page))
     (er : rose ≡ (t .every && anyPair risen (pagesIn m) (map (pageLeft w) (pagesIn m))))
     (en : n ≡ everyStored m (t .every) w)
     (es : standing ≡ (t .clears && anyOf anyStatus (pagesIn n)))
     (eo : o ≡ finished (t .outcome) (t .clears) rose standing) where
   turned : t ≡ writeTurn u p (answered (device u (pagesIn s)) (write bytes)) w
-  turned = et (pagesIn s) (all-seen s h)
+  turned = et ∙ ap (λ (x : Device). writeTurn u p (answered x (write bytes)) w) (sym (same-device s h u eu))
 
   turn-is : t ≡ writeTurn u p (answered (deviceOf s) (write bytes)) (asked bytes)
-  turn-is = turned ∙ ap₂ (λ (x : Device) (y : Write). writeTurn u p (answered x (write bytes)) y) (same-device s h u eu) ew
+  turn-is = et ∙ ap (writeTurn u p (answered (deviceOf s) (write bytes))) ew
 
   answer-given : t .outcome .answer ≡ answered (deviceOf s) (write bytes)
   unfolding writeTurn acceptedTurn refusedOutcome
@@ -297,22 +302,49 @@ module _ (s : List ℕ) (h : Held s) (u : Unpaged) (eu : u ≡ unpagedForm .get 
   written-beside : beside o (pagesIn n) ≡ step (deviceOf s) (write bytes) .done
   written-beside =
       ap (λ (x : Outcome). beside x (pagesIn n)) eo
-      ∙ write-done u (pagesIn s) bytes p w t (pagesIn m) (pagesIn n) rose standing ep ew turned (ap pagesIn m-is ∙ seen .back) er swept-are es
+      ∙ write-done u (pagesIn s) bytes p w t (pagesIn m) (pagesIn n) rose standing ep (λ z. ew) turned (ap pagesIn m-is ∙ seen .back) er swept-are es
       ∙ ap (λ (d : Device). step d (write bytes) .done) (same-device s h u eu)
 
-  pub written-made : (r : List ℕ) → r ≡ unpagedForm .store n 22 (o .unpaged)
+  asked-made : (r : List ℕ) → r ≡ unpagedForm .store n unpagedAt (o .unpaged)
       → (o .answer ≡ step (deviceOf s) (write bytes) .done .answer)
       × (r ≡ storeDevice (stores (deviceOf s) (write bytes)) s (step (deviceOf s) (write bytes) .done .device))
-  written-made r e = (
+  asked-made r e = (
     answer-is (deviceOf s) (write bytes) o (pagesIn n) written-beside,
     device-stored (deviceOf s) (write bytes) o (pagesIn n) written-beside s n r
-        (n-is ∙ seen .whole ∙ ap (storePages (stores (deviceOf s) (write bytes)) s 34) (ap pagesIn (sym n-is))) e,
+        (n-is ∙ seen .whole ∙ ap (storePages (stores (deviceOf s) (write bytes)) s pagesFrom) (ap pagesIn (sym n-is))) e,
   )
+
+-- where the write is refused it does not matter what it asks for
+module _ (s : List ℕ) (h : Held s) (u : Unpaged) (eu : u ≡ unpagedForm .get s unpagedAt) (bytes : List ℕ) (p : Page) (j : Judged) (t : Turn) (m n : List ℕ) (rose standing : Bool) (o : Outcome)
+    (ep : p ≡ getD (pagesIn s) (u .page) powerOnPage)
+    (ej : (j .answer ≡ writeAnswer 8 u bytes) × (j .answer ≡ 0 → j .write ≡ asked bytes))
+    (et : t ≡ writeTurn u p (j .answer) (j .write))
+    (em : m ≡ putBack s (t .outcome .answer) (u .page) (t .page))
+    (er : rose ≡ (t .every && anyPair risen (pagesIn m) (map (pageLeft (j .write)) (pagesIn m))))
+    (en : n ≡ everyStored m (t .every) (j .write))
+    (es : standing ≡ (t .clears && anyOf anyStatus (pagesIn n)))
+    (eo : o ≡ finished (t .outcome) (t .clears) rose standing) where
+  judged-answer : j .answer ≡ answered (deviceOf s) (write bytes)
+  unfolding answerOf
+  judged-answer = ej .0 ∙ rw (answered-of (deviceOf s) (write bytes) (h .valid), unpaged-of s, pages-of s, eu)
+
+  pub written-made : (r : List ℕ) → r ≡ unpagedForm .store n unpagedAt (o .unpaged)
+      → (o .answer ≡ step (deviceOf s) (write bytes) .done .answer)
+      × (r ≡ storeDevice (stores (deviceOf s) (write bytes)) s (step (deviceOf s) (write bytes) .done .device))
+  unfolding writeTurn
+  written-made r e =
+      let a = answered (deviceOf s) (write bytes) in
+      let turned : t ≡ writeTurn u p a (j .write) = et ∙ ap (λ (x : ℕ). writeTurn u p x (j .write)) judged-answer in
+      either (eqb a 0)
+      (λ y. asked-made s h u eu bytes p (j .write) t m n rose standing o ep (ej .1 (judged-answer ∙ eqb-true a 0 y)) turned em er en es eo r e)
+      (λ f. let t-is : t ≡ turn (refusedOutcome u a) p false false = turned ∙ rw f in
+      let off : t .every ≡ false = ap (λ (x : Turn). x .every) t-is in
+      asked-made s h u eu bytes p (asked bytes) t m n rose standing o ep refl (t-is ∙ rw f) em (er ∙ rw off) (en ∙ rw off) es eo r e)
 
 -- ---- a tick
 
-pub ticked-made : (s : List ℕ) → Held s → (u : Unpaged) → u ≡ unpagedForm .get s 22 → (m n : List ℕ)
-    → m ≡ storeAll pageForm s 34 (map ticked (pagesIn s)) → n ≡ unpagedForm .store m 22 u
+pub ticked-made : (s : List ℕ) → Held s → (u : Unpaged) → u ≡ unpagedForm .get s unpagedAt → (m n : List ℕ)
+    → m ≡ storeAll pageForm s pagesFrom (map ticked (pagesIn s)) → n ≡ unpagedForm .store m unpagedAt u
     → (0 ≡ step (deviceOf s) tick .done .answer) × (n ≡ storeDevice (stores (deviceOf s) tick) s (step (deviceOf s) tick .done .device))
 unfolding stores touches answerOf
 ticked-made s h u eu m n em en =
@@ -324,20 +356,22 @@ ticked-made s h u eu m n em en =
     ap (λ (a : ℕ). beside (outcome u a) (map ticked (pagesIn s))) (sym z) ∙ tick-done u (pagesIn s) z ∙ ap (λ (x : Device). step x tick .done) same in (
       answer-is d tick (outcome u 0) _ after,
       device-stored d tick (outcome u 0) _ after s m n
-          (em ∙ sym (every-stored (stores d tick) s 34 (map ticked (pagesIn s)) (λ i. rw (eq-eqb (answered d tick) 0 zero-answer)))) en,
+          (em ∙ sym (every-stored (stores d tick) s pagesFrom (map ticked (pagesIn s)) (λ i. rw (eq-eqb (answered d tick) 0 zero-answer)))) en,
     )
 
 -- ---- a read, and nothing orderly
 
-pub refused-made : (s : List ℕ) → Held s → (u v : Unpaged) (a : ℕ) (t : List ℕ) → u ≡ unpagedForm .get s 22 → v ≡ refused u a → t ≡ unpagedForm .store s 22 v
+pub refused-made : (s : List ℕ) → Held s → (u v : Unpaged) (a : ℕ) (t : List ℕ) → u ≡ unpagedForm .get s unpagedAt → v ≡ refused u a → t ≡ unpagedForm .store s unpagedAt v
     → t ≡ storeUnpaged s (refusedDevice (deviceOf s) a)
 unfolding refusedDevice
-refused-made s h u v a t eu ev et = et ∙ ap (unpagedForm .store s 22) (ev ∙ ap (λ (x : Unpaged). refused x a) (eu ∙ sym (unpaged-of s)))
+refused-made s h u v a t eu ev et = et ∙ ap (unpagedForm .store s unpagedAt) (ev ∙ ap (λ (x : Unpaged). refused x a) (eu ∙ sym (unpaged-of s)))
 
-module _ (s : List ℕ) (h : Held s) (u : Unpaged) (eu : u ≡ unpagedForm .get s 22) (header : List ℕ) (n a : ℕ) (ea : a ≡ readAnswer u header n) where
+module _ (s : List ℕ) (h : Held s) (u : Unpaged) (eu : u ≡ unpagedForm .get s unpagedAt) (header : List ℕ) (n a : ℕ)
+    (i : ℕ) (ei : i ≡ shown u) (p : Page) (ep : p ≡ getD (pagesIn s) i powerOnPage) (ea : a ≡ readAnswer u p header n) where
   read-answered : a ≡ answered (deviceOf s) (read header n)
   unfolding answerOf
-  read-answered = ea ∙ ap (λ (x : Unpaged). readAnswer x header n) (eu ∙ sym (unpaged-of s)) ∙ sym (answered-of (deviceOf s) (read header n) (h .valid))
+  read-answered =
+      ea ∙ ap₂ (λ (x : Unpaged) (q : Page). readAnswer x q header n) (eu ∙ sym (unpaged-of s)) (shown-taken s h u eu i ei p ep) ∙ sym (answered-of (deviceOf s) (read header n) (h .valid))
 
   pub read-made : (t : List ℕ) → t ≡ storeUnpaged s (refusedDevice (deviceOf s) a)
       → (a ≡ step (deviceOf s) (read header n) .done .answer) × (t ≡ storeUnpaged s (step (deviceOf s) (read header n) .done .device))
@@ -351,7 +385,7 @@ disorder-made s t e = e ∙ ap (storeUnpaged s) (device-stays (deviceOf s) 2 ref
 
 -- ---- an alert response
 
-pub alert-made : (s : List ℕ) → Held s → (u : Unpaged) → u ≡ unpagedForm .get s 22 → (n : ℕ) (t : Sending)
+pub alert-made : (s : List ℕ) → Held s → (u : Unpaged) → u ≡ unpagedForm .get s unpagedAt → (n : ℕ) (t : Sending)
     → ((ps : List Page) → eightValid ≡ surveyed ps
     → (beside (t .outcome) ps ≡ step (device u ps) (alertResponse n) .done) × (replyOf (streamOf (t .stream)) n ≡ step (device u ps) (alertResponse n) .reply))
     → Answers s (alertResponse n) t

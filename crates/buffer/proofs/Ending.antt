@@ -1,6 +1,6 @@
 -- The five events over a buffer, from what their functions find.
 -- Assumes nothing.
-use Prim.Native.Nat.{ℕ, suc, _+_, _*_, _-_, _%_, _<_, _≤_}
+use Prim.Native.Nat.{ℕ, suc, _+_, _-_, _<_, _≤_}
 use mathlib.Core.Path.{_≡_, refl, sym, ap, ap₂, _∙_}
 use mathlib.Core.Bool.{Bool, true, false, cond, _&&_, and-eq-true-iff}
 use mathlib.Core.List.{List, [], _∷_, append-nil}
@@ -14,26 +14,30 @@ use Rattle.bus.specs.Part.{heard, taking, answering, started, idle, partValid}
 use Rattle.bus.specs.Automaton.{start, byte, again, clock, stop, byted, restarted, clocked, partAfter, clockByte}
 use Rattle.bus.specs.Ack.{ackIn, ackOf}
 use Rattle.page.specs.declared.Page.{Page}
-use Rattle.page.specs.Page.{noPage, powerOnPage}
+use Rattle.page.specs.Page.{powerOnPage}
 use Rattle.unpaged.specs.declared.Unpaged.{Unpaged}
-use Rattle.unpaged.specs.Unpaged.{powerOnUnpaged}
+use Rattle.unpaged.specs.Unpaged.{powerOnUnpaged, shown}
 use Rattle.device.specs.declared.Device.{Device}
 use Rattle.device.specs.declared.Done.{Done}
-use Rattle.device.specs.Device.{deviceValid, powerOn}
+use Rattle.device.specs.Device.{usual, powerOn, deviceValid}
 use Rattle.device.specs.Step.{write, read, done, step}
+use Rattle.device.proofs.PowerOn.{usual-device}
 use Rattle.stream.specs.Stream.{State, state, stateValid, pageReply, byteTaken, partNext, ended}
-use Rattle.stream.proofs.Stopping.{reply-selected}
-use Rattle.buffer.specs.Form.{storeAll}
-use Rattle.buffer.specs.Layout.{partForm, accountForm, unpagedForm, pageForm, deviceForm, stateForm}
-use Rattle.buffer.specs.Buffer.{decode, encode, ready, partOf, deviceOf, storePages, storeDevice, stores, endStores, stopFed, partFed, takenOf, powerFed, gives}
+use Rattle.stream.proofs.Stopping.{reply-shown}
+use Rattle.layout.specs.Form.{storeAll}
+use Rattle.layout.specs.Layout.{partForm, accountForm, unpagedForm, pageForm, deviceForm, stateForm, pagesIn, pagesFrom, size, unpagedAt}
+use Rattle.layout.specs.State.{decode, encode, ready, partOf, deviceOf}
+use Rattle.layout.proofs.Laws.{part-back, unpaged-fits, state-back}
+use Rattle.layout.proofs.Places.{store-over}
+use Rattle.layout.proofs.Shapes.{shape-fits}
+use Rattle.layout.proofs.EightPages.{part-wide, whole-wide}
+use Rattle.layout.proofs.Kept.{Sized, part-fits, got-sized, byted-sized, reply-made, heard-part}
+use Rattle.layout.proofs.Decoded.{part-of, unpaged-of}
+use Rattle.layout.proofs.StoredPart.{idle-sized, part-length, part-decodes}
+use Rattle.buffer.specs.Buffer.{storePages, storeDevice, stores, endStores, stopFed, partFed, takenOf, powerFed, gives}
 use Rattle.buffer.specs.Private.{storeUnpaged, Held, Keeping, storeReply}
-use Rattle.buffer.proofs.Laws.{part-back, state-back}
-use Rattle.buffer.proofs.Places.{store-over}
-use Rattle.buffer.proofs.Shapes.{shape-fits, power-on-shape}
-use Rattle.buffer.proofs.EightPages.{part-wide, page-at}
-use Rattle.buffer.proofs.Kept.{Sized, part-fits, got-sized, byted-sized, reply-made, heard-part}
-use Rattle.buffer.proofs.Held.{part-of, unpaged-of, pages-of, held}
-use Rattle.buffer.proofs.StoredPart.{idle-sized, part-length, part-decodes}
+use Rattle.buffer.proofs.Rules.{power-on-shape}
+use Rattle.buffer.proofs.Held.{held, shown-taken}
 use Rattle.buffer.proofs.Stored.{unpaged-alone}
 
 -- ---- a byte
@@ -60,7 +64,7 @@ read-long d h = simp (length-take, length-append, length-replicate) (omega arith
 pub keeping : (s : List ℕ) → ready s ≡ true → Keeping s
 unfolding ready stateValid partValid
 keeping s y =
-    let whole = and-eq-true-iff (eqb (length s) 466) (stateValid (decode s)) .0 y in
+    let whole = and-eq-true-iff (eqb (length s) size) (stateValid (decode s)) .0 y in
     let part = and-eq-true-iff (partValid (partOf s)) (deviceValid (deviceOf s)) .0 (whole .1) .0 in
     let counts = and-eq-true-iff (ltb (partOf s .phase) 5 && ltb (partOf s .count) 12) (ltb (partOf s .clocked) 10) .0 part .0 in
     let few = ltb-true (partOf s .count) 12 (and-eq-true-iff (ltb (partOf s .phase) 5) (ltb (partOf s .count) 12) .0 counts .1) in
@@ -77,19 +81,13 @@ module _ (s : List ℕ) (k : Keeping s) where
   pub ack-made : (b : ℕ) (r : Bool) → r ≡ ackIn (getD s 0 0) (take (2 + getD s 1 0 - 2) (drop 2 s)) b → r ≡ ackOf (partOf s) b
   ack-made b r e = e ∙ ap₂ (λ (x : ℕ) (l : List ℕ). ackIn x l b) (sym (phase-of s)) heard-of
 
-  pub reply-is : (u : Unpaged) (page : Page) (r : List ℕ) → u ≡ unpagedForm .get s 22 → page ≡ pageForm .get s (34 + 54 * (u .page % 8))
+  pub reply-is : (u : Unpaged) (i : ℕ) (page : Page) (r : List ℕ) → u ≡ unpagedForm .get s unpagedAt → i ≡ shown u → page ≡ getD (pagesIn s) i powerOnPage
       → r ≡ pageReply u page (take (2 + getD s 1 0 - 2) (drop 2 s)) → r ≡ step (deviceOf s) (read (heard (partOf s)) 8) .reply
-  reply-is u page r eu ep er =
+  reply-is u i page r eu ei ep er =
       let d = deviceOf s in
       let h = heard (partOf s) in
-      let same : u ≡ d .unpaged = eu ∙ sym (unpaged-of s) in
-      let n = d .unpaged .page % 8 in
-      let small : n < 8 = omega arith in
-      let one : page ≡ getD (d .pages) n noPage =
-      ep ∙ ap (λ (x : Unpaged). pageForm .get s (34 + 54 * (x .page % 8))) same ∙ sym (page-at s n small noPage)
-      ∙ ap (λ (l : List Page). getD l n noPage) (sym (pages-of s)) in
-      er ∙ ap (pageReply u page) heard-of ∙ ap₂ (λ (x : Unpaged) (y : Page). pageReply x y h) same one
-      ∙ sym (reply-selected d h (k .holds .valid) (ap length (pages-of s)))
+      er ∙ ap (pageReply u page) heard-of ∙ ap (λ (x : Unpaged). pageReply x page h) (eu ∙ sym (unpaged-of s))
+      ∙ sym (reply-shown d page h (k .holds .valid) (shown-taken s (k .holds) u eu i ei page ep))
 
 -- the buffer with one byte more that is kept
 module _ (s : List ℕ) (k : Keeping s) (b : ℕ) (m : List ℕ) (em : m ≡ partForm .store s 0 (byted (partForm .get s 0) b)) where
@@ -124,7 +122,7 @@ module _ (s : List ℕ) (k : Keeping s) (b : ℕ) (m : List ℕ) (em : m ≡ par
       (λ y. let h = ltb-true (partForm .get s 0 .count) 11 y in rw y (omega arith))
       (λ n. rw n (omega arith)))
 
-  long-more : length m ≡ 466
+  long-more : length m ≡ size
   long-more = ap length more ∙ part-length s (k .holds .long) q sized
 
   pub keeping-more : Keeping m
@@ -198,8 +196,8 @@ module _ (s : List ℕ) (p : Part) (x : ℕ) (t : List ℕ) where
       let d = deviceOf s in
       let e : ended d p ≡ step d (write (heard p)) .done = rw y in (
         a ∙ ap (λ (r : Done). r .answer) (sym e),
-        b ∙ ap (λ (m : List ℕ). unpagedForm .store m 22 (step d (write (heard p)) .done .device .unpaged))
-            (agree (stores d (write (heard p))) (endStores d p) s 34 (step d (write (heard p)) .done .device .pages) (λ i. rw y))
+        b ∙ ap (λ (m : List ℕ). unpagedForm .store m unpagedAt (step d (write (heard p)) .done .device .unpaged))
+            (agree (stores d (write (heard p))) (endStores d p) s pagesFrom (step d (write (heard p)) .done .device .pages) (λ i. rw y))
             ∙ ap (λ (r : Done). storeDevice (endStores d p) s (r .device)) (sym e),
       )
 
@@ -252,28 +250,25 @@ module _ (s : List ℕ) (h : Held s) where
 
 -- ---- power-on
 
-pub power-fits : stateForm .Fits (state idle (powerOn 8))
-unfolding stateForm deviceForm unpagedForm accountForm powerOn
+pub power-fits : stateForm .Fits (state idle (powerOn (usual 8)))
+unfolding stateForm deviceForm
 power-fits =
     let p = shape-fits powerOnPage power-on-shape in
-    (part-fits idle idle-sized, ((tt, (tt, (tt, (tt, (tt, (tt, (tt, tt))))))), (refl, (p, (p, (p, (p, (p, (p, (p, (p, tt)))))))))))
-
-pub whole-wide : stateForm .width ≡ 466
-unfolding stateForm partForm deviceForm unpagedForm accountForm pageForm
-whole-wide = refl
+    rw (usual-device 8)
+    (part-fits idle idle-sized, (unpaged-fits powerOnUnpaged, (refl, (p, (p, (p, (p, (p, (p, (p, (p, tt)))))))))))
 
 whole-store : (s : List ℕ)
-    → storeAll pageForm (unpagedForm .store (partForm .store s 0 idle) 22 powerOnUnpaged) 34 (replicate 8 powerOnPage) ≡ stateForm .store s 0 (state idle (powerOn 8))
-unfolding stateForm partForm deviceForm unpagedForm accountForm powerOn
-whole-store s = refl
+    → storeAll pageForm (unpagedForm .store (partForm .store s 0 idle) unpagedAt powerOnUnpaged) pagesFrom (replicate 8 powerOnPage) ≡ stateForm .store s 0 (state idle (powerOn (usual 8)))
+unfolding stateForm partForm deviceForm unpagedForm accountForm
+whole-store s = rw (usual-device 8)
 
-pub powered-made : (s : List ℕ) → length s ≡ 466 → (p : Part) (u : Unpaged) (a b t : List ℕ) → p ≡ idle → u ≡ powerOnUnpaged
-    → a ≡ partForm .store s 0 p → b ≡ unpagedForm .store a 22 u → t ≡ storeAll pageForm b 34 (replicate 8 powerOnPage) → t ≡ powerFed s
+pub powered-made : (s : List ℕ) → length s ≡ size → (p : Part) (u : Unpaged) (a b t : List ℕ) → p ≡ idle → u ≡ powerOnUnpaged
+    → a ≡ partForm .store s 0 p → b ≡ unpagedForm .store a unpagedAt u → t ≡ storeAll pageForm b pagesFrom (replicate 8 powerOnPage) → t ≡ powerFed s
 unfolding powerFed encode
 powered-made s l p u a b t ep eu ea eb et =
-    rw (eq-eqb (length s) 466 l)
-    (et ∙ ap (λ (m : List ℕ). storeAll pageForm m 34 (replicate 8 powerOnPage)) (eb ∙ ap₂ (λ (m : List ℕ) (v : Unpaged). unpagedForm .store m 22 v) (ea ∙ ap (partForm .store s 0) ep) eu)
+    rw (eq-eqb (length s) size l)
+    (et ∙ ap (λ (m : List ℕ). storeAll pageForm m pagesFrom (replicate 8 powerOnPage)) (eb ∙ ap₂ (λ (m : List ℕ) (v : Unpaged). unpagedForm .store m unpagedAt v) (ea ∙ ap (partForm .store s 0) ep) eu)
     ∙ whole-store s
-    ∙ ap (λ (m : List ℕ). stateForm .store m 0 (state idle (powerOn 8))) (sym (append-nil s))
-    ∙ state-back .stored (state idle (powerOn 8)) power-fits [] s [] (l ∙ sym whole-wide)
-    ∙ append-nil (stateForm .put (state idle (powerOn 8))))
+    ∙ ap (λ (m : List ℕ). stateForm .store m 0 (state idle (powerOn (usual 8)))) (sym (append-nil s))
+    ∙ state-back .stored (state idle (powerOn (usual 8))) power-fits [] s [] (l ∙ sym whole-wide)
+    ∙ append-nil (stateForm .put (state idle (powerOn (usual 8)))))

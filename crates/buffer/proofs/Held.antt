@@ -1,70 +1,44 @@
--- The parts of the state that a buffer holds, and the test for answer 15.
+-- A buffer that passed the test for answer 15, and one that did not.
 -- Assumes nothing.
 use Prim.Native.Nat.{ℕ}
-use mathlib.Core.Path.{_≡_, refl, sym, ap, _∙_}
-use mathlib.Core.Bool.{Bool, true, false, not, _&&_, and-eq-true-iff}
+use mathlib.Core.Path.{_≡_, sym, ap, ap₂, _∙_}
+use mathlib.Core.Bool.{Bool, true, false, not, and-eq-true-iff}
 use mathlib.Core.List.{List}
-use lib.ListN.{length}
+use lib.ListN.{length, getD}
 use lib.Dec.{eqb}
-use borrow.Author.Tests.{eqb-true, eq-eqb, ne-eqb, not-false, not-true}
-use Rattle.laws.specs.Lists.{allOf}
+use borrow.Author.Tests.{eqb-true, not-false, not-true}
 use Rattle.bus.specs.Part.{partValid}
 use Rattle.bus.specs.Automaton.{Event}
-use Rattle.page.specs.Settings.{pageValid}
-use Rattle.unpaged.specs.Unpaged.{unpagedValid}
-use Rattle.device.specs.declared.Device.{Device}
-use Rattle.device.specs.Device.{device, deviceValid, supported}
+use Rattle.page.specs.declared.Page.{Page}
+use Rattle.page.specs.Page.{powerOnPage}
+use Rattle.unpaged.specs.declared.Unpaged.{Unpaged}
+use Rattle.unpaged.specs.Unpaged.{shown}
+use Rattle.device.specs.Device.{device, deviceValid, pageShown}
 use Rattle.device.specs.Step.{Call, step}
 use Rattle.device.proofs.States.{valid-parts}
+use Rattle.device.proofs.Calls.{shown-of-any}
 use Rattle.records.specs.Records.{counted, surveyed}
 use Rattle.stream.specs.Stream.{stateValid, eightValid}
-use Rattle.buffer.specs.Layout.{partForm, accountForm, unpagedForm, deviceForm, stateForm, pagesIn}
-use Rattle.buffer.specs.Buffer.{decode, ready, partOf, deviceOf, storeDevice, stores, callFed, takenOf, eventFed, gives, refuses, eventGives, callGives}
+use Rattle.layout.specs.Layout.{unpagedForm, pagesIn, size, unpagedAt}
+use Rattle.layout.specs.State.{decode, ready, partOf, deviceOf}
+use Rattle.layout.proofs.Decoded.{unpaged-of, pages-of}
+use Rattle.buffer.specs.Buffer.{storeDevice, stores, callFed, takenOf, eventFed, gives, refuses, eventGives, callGives}
 use Rattle.buffer.specs.Private.{Held}
 
 module _ (s : List ℕ) where
-  pub part-of : partOf s ≡ partForm .get s 0
-  unfolding decode stateForm
-  part-of = refl
-
-  pub device-of : deviceOf s ≡ deviceForm .get s 22
-  unfolding decode stateForm partForm
-  device-of = refl
-
-  pub device-is : deviceOf s ≡ device (unpagedForm .get s 22) (pagesIn s)
-  unfolding decode stateForm partForm deviceForm unpagedForm accountForm
-  device-is = refl
-
-  pub unpaged-of : deviceOf s .unpaged ≡ unpagedForm .get s 22
-  unpaged-of = ap (λ (d : Device). d .unpaged) device-is
-
-  pub pages-of : deviceOf s .pages ≡ pagesIn s
-  pages-of = ap (λ (d : Device). d .pages) device-is
-
-  device-valid : deviceValid (deviceOf s) ≡ (unpagedValid 8 (unpagedForm .get s 22) && allOf pageValid (pagesIn s))
-  unfolding deviceValid supported
-  device-valid = rw device-is
-
-  pub valid-made : (part unpaged pages : Bool)
-      → part ≡ partValid (partForm .get s 0) → unpaged ≡ unpagedValid 8 (unpagedForm .get s 22) → pages ≡ allOf pageValid (pagesIn s)
-      → (part && (unpaged && pages)) ≡ stateValid (decode s)
-  unfolding stateValid
-  valid-made part unpaged pages a b c = rw (a, b, c, device-valid, part-of)
-
-  pub ready-made : length s ≡ 466 → (r : Bool) → r ≡ stateValid (decode s) → r ≡ ready s
-  unfolding ready
-  ready-made l r e = rw (eq-eqb (length s) 466 l) e
-
-  pub ready-not : (length s ≡ 466 → ⊥) → false ≡ ready s
-  unfolding ready
-  ready-not l = rw (ne-eqb (length s) 466 l)
+  -- the page that a read looks at, taken out by its number i
+  pub shown-taken : Held s → (u : Unpaged) → u ≡ unpagedForm .get s unpagedAt → (i : ℕ) → i ≡ shown u → (p : Page) → p ≡ getD (pagesIn s) i powerOnPage
+      → p ≡ pageShown (deviceOf s)
+  shown-taken h u eu i ei p ep =
+      ep ∙ ap₂ (λ (l : List Page) (j : ℕ). getD l j powerOnPage) (sym (pages-of s)) (ei ∙ ap shown (eu ∙ sym (unpaged-of s)))
+      ∙ shown-of-any (deviceOf s) powerOnPage (h .valid)
 
   pub held : ready s ≡ true → Held s
   unfolding ready stateValid
   held h =
-      let both = and-eq-true-iff (eqb (length s) 466) (stateValid (decode s)) .0 h in
+      let both = and-eq-true-iff (eqb (length s) size) (stateValid (decode s)) .0 h in
       record {
-        long = eqb-true (length s) 466 (both .0);
+        long = eqb-true (length s) size (both .0);
         valid = and-eq-true-iff (partValid (partOf s)) (deviceValid (deviceOf s)) .0 (both .1) .1;
       }
 
@@ -81,7 +55,7 @@ module _ (s : List ℕ) where
   -- the rules of lent records are told of eight valid pages
   pub all-seen : Held s → eightValid ≡ surveyed (pagesIn s)
   unfolding counted
-  all-seen h = rw (rw pages-of at (valid-parts (deviceOf s) (h .valid) .pages))
+  all-seen h = rw (rw (pages-of s) at (valid-parts (deviceOf s) (h .valid) .pages))
 
 -- ---- a buffer that is not ready, and one that is
 

@@ -1,10 +1,6 @@
-pub mod Laws
-pub mod Places
-pub mod Shapes
-pub mod EightPages
-pub mod Kept
+pub mod Rules
+pub mod Changing
 pub mod Held
-pub mod StoredPart
 pub mod Stored
 pub mod Calling
 pub mod Ending

@@ -12,12 +12,12 @@ use Rattle.page.specs.declared.Page.{Page}
 use Rattle.page.specs.Page.{noPage}
 use Rattle.device.specs.declared.Device.{Device}
 use Rattle.device.specs.Step.{Call, answered}
-use Rattle.history.specs.Pages.{touches}
-use Rattle.buffer.specs.Form.{storeAll}
-use Rattle.buffer.specs.Layout.{unpagedForm, pageForm}
+use Rattle.device.specs.Touches.{touches}
+use Rattle.layout.specs.Form.{storeAll}
+use Rattle.layout.specs.Layout.{unpagedForm, pageForm, pageWide, pagesFrom, unpagedAt}
+use Rattle.layout.proofs.EightPages.{wide}
 use Rattle.buffer.specs.Buffer.{storePages, storeDevice, stores}
 use Rattle.buffer.specs.Private.{storeUnpaged}
-use Rattle.buffer.proofs.EightPages.{wide}
 
 pub none-stored : (t : ℕ → Bool) (s : List ℕ) (o : ℕ) (l : List Page) → ((i : ℕ) → t i ≡ false) → storePages t s o l ≡ s
 none-stored t s o [] h = refl
@@ -40,17 +40,17 @@ one-stored t s o (p ∷ l) (suc k) h y n =
     ∙ ap (λ (j : ℕ). pageForm .store s j (getD l k noPage)) e)
 
 pub one-at : (t : ℕ → Bool) (s : List ℕ) (l : List Page) (k : ℕ) → k < length l → t k ≡ true → ((i : ℕ) → (i ≡ k → ⊥) → t i ≡ false)
-    → storePages t s 34 l ≡ pageForm .store s (34 + 54 * k) (getD l k noPage)
+    → storePages t s pagesFrom l ≡ pageForm .store s (pagesFrom + pageWide * k) (getD l k noPage)
 one-at t s l k h y n =
-    one-stored t s 34 l k h y n ∙ ap (λ (j : ℕ). pageForm .store s j (getD l k noPage)) (ap (λ (w : ℕ). 34 + k * w) wide ∙ turned k)
+    one-stored t s pagesFrom l k h y n ∙ ap (λ (j : ℕ). pageForm .store s j (getD l k noPage)) (ap (λ (w : ℕ). pagesFrom + k * w) wide ∙ turned k)
   where
-    turned : (k : ℕ) → 34 + k * 54 ≡ 34 + 54 * k
+    turned : (k : ℕ) → pagesFrom + k * pageWide ≡ pagesFrom + pageWide * k
     turned k = omega arith
 
 -- where no page is stored the unpaged part is alone
 pub unpaged-alone : (t : ℕ → Bool) (s : List ℕ) (d : Device) → ((i : ℕ) → t i ≡ false) → storeUnpaged s d ≡ storeDevice t s d
 unfolding storeDevice
-unpaged-alone t s d h = ap (λ (m : List ℕ). unpagedForm .store m 22 (d .unpaged)) (sym (none-stored t s 34 (d .pages) h))
+unpaged-alone t s d h = ap (λ (m : List ℕ). unpagedForm .store m unpagedAt (d .unpaged)) (sym (none-stored t s pagesFrom (d .pages) h))
 
 -- a call that touches no page, or is refused, stores none
 pub untouched : (d : Device) (c : Call) → ((i : ℕ) → touches d c i ≡ false) → (i : ℕ) → stores d c i ≡ false

@@ -8,33 +8,17 @@ use lib.Dec.{eqb}
 use Rattle.page.specs.declared.Page.{Page}
 use Rattle.reads.specs.Reply.{replyOf}
 use Rattle.device.specs.declared.Device.{Device}
-use Rattle.device.specs.Device.{device, powerOn}
+use Rattle.device.specs.Device.{device, usual, powerOn}
 use Rattle.device.specs.Step.{Call, write, answered, clocked, done, step}
 use Rattle.device.specs.Supply.{suppliesAt}
-use Rattle.history.specs.Pages.{touches}
+use Rattle.device.specs.Touches.{touches}
 use Rattle.bus.specs.declared.Part.{Part}
 use Rattle.bus.specs.Part.{writing, heard, idle}
 use Rattle.bus.specs.Automaton.{Event, start, byte, again, clock, stop, clockByte}
 use Rattle.bus.specs.Ack.{ackOf}
-use Rattle.stream.specs.Stream.{State, state, stateValid, partNext, ended}
-use Rattle.buffer.specs.Layout.{partForm, unpagedForm, pageForm, stateForm, size, pagesFrom}
-
--- the state that a buffer holds, and its bytes; every byte is some value's
-unfoldable pub decode : List ℕ → State
-decode s = stateForm .get s 0
-
-unfoldable pub encode : State → List ℕ
-encode x = stateForm .put x
-
--- a buffer of the right length that holds a valid state; every other gets 15 and is left as it is
-unfoldable pub ready : List ℕ → Bool
-ready s = eqb (length s) size && stateValid (decode s)
-
-abbrev pub partOf : List ℕ → Part
-partOf s = decode s .part
-
-abbrev pub deviceOf : List ℕ → Device
-deviceOf s = decode s .device
+use Rattle.stream.specs.Stream.{state, partNext, ended}
+use Rattle.layout.specs.Layout.{partForm, unpagedForm, pageForm, size, pagesFrom, unpagedAt}
+use Rattle.layout.specs.State.{encode, ready, partOf, deviceOf}
 
 -- ---- what is left of the buffer
 
@@ -45,7 +29,7 @@ storePages t s o (p ∷ l) = storePages (λ i. t (suc i)) (cond (t 0) (pageForm 
 
 -- a device over the one that s holds: those of its pages that pass the test, and its unpaged part
 unfoldable pub storeDevice : (ℕ → Bool) → List ℕ → Device → List ℕ
-storeDevice t s d = unpagedForm .store (storePages t s pagesFrom (d .pages)) 22 (d .unpaged)
+storeDevice t s d = unpagedForm .store (storePages t s pagesFrom (d .pages)) unpagedAt (d .unpaged)
 
 -- an accepted call stores the pages that it touches
 unfoldable pub stores : Device → Call → ℕ → Bool
@@ -78,7 +62,7 @@ eventFed s e = cond (ready s) (takenOf s e) s
 
 -- power-on sets every byte of a buffer of the right length
 unfoldable pub powerFed : List ℕ → List ℕ
-powerFed s = cond (eqb (length s) size) (encode (state idle (powerOn 8))) s
+powerFed s = cond (eqb (length s) size) (encode (state idle (powerOn (usual 8)))) s
 
 -- ---- what is given
 

@@ -1,4 +1,2 @@
-pub mod Form
-pub mod Layout
 pub mod Buffer
 pub mod Private

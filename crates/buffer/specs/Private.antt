@@ -1,19 +1,18 @@
 -- What the private functions behind the test for 15 ask of a buffer, and promise. No promise of a public function speaks of it.
 -- Assumes nothing.
-use Prim.Native.Nat.{ℕ, _+_, _≤_}
+use Prim.Native.Nat.{ℕ, _≤_}
 use mathlib.Core.Path.{_≡_}
-use mathlib.Core.Bool.{true, cond}
+use mathlib.Core.Bool.{true}
 use mathlib.Core.List.{List}
-use lib.ListN.{length, getD, set}
-use lib.Dec.{ltb}
+use lib.ListN.{length, getD}
 use Rattle.reads.specs.Reply.{replyOf, streamOf}
 use Rattle.device.specs.declared.Device.{Device}
 use Rattle.device.specs.Device.{device, deviceValid}
 use Rattle.device.specs.Step.{Call, clocked, done, step}
 use Rattle.lent.specs.declared.turns.Sending.{Sending}
-use Rattle.buffer.specs.Form.{octet, storeAll}
-use Rattle.buffer.specs.Layout.{unpagedForm, size}
-use Rattle.buffer.specs.Buffer.{deviceOf}
+use Rattle.layout.specs.Form.{octet, storeAll}
+use Rattle.layout.specs.Layout.{unpagedForm, size, unpagedAt}
+use Rattle.layout.specs.State.{deviceOf}
 
 -- the right length, and a valid device
 pub record Held (s : List ℕ) : Type 0 where
@@ -22,7 +21,7 @@ pub record Held (s : List ℕ) : Type 0 where
 
 -- a device of which the unpaged part alone is stored
 abbrev pub storeUnpaged : List ℕ → Device → List ℕ
-storeUnpaged s d = unpagedForm .store s 22 (d .unpaged)
+storeUnpaged s d = unpagedForm .store s unpagedAt (d .unpaged)
 
 -- what a call that changes no page leaves and sends
 pub record Answers (s : List ℕ) (c : Call) (t : Sending) : Type 0 where
@@ -34,9 +33,6 @@ pub record Keeping (s : List ℕ) : Type 0 where
   pub holds : Held s
   pub few : getD s 1 0 ≤ 11
 
--- a byte more that is kept, its count first; and the reply
-unfoldable pub heardByte : List ℕ → ℕ → List ℕ
-heardByte s b = cond (ltb (getD s 1 0) 11) (set (set s 1 (getD s 1 0 + 1)) (2 + getD s 1 0) b) s
-
+-- the reply
 abbrev pub storeReply : List ℕ → List ℕ → List ℕ
 storeReply s r = storeAll octet s 14 r

@@ -6,14 +6,16 @@ ghost use lib.ListN.{length};
 ghost use Rattle.reads.specs.Reply.{replyOf};
 ghost use Rattle.device.specs.Step.{measure, sample, alertResponse, tick, step};
 ghost use Rattle.device.specs.Supply.{suppliesAt};
-ghost use Rattle.buffer.specs.Buffer.{deviceOf, stores, storeDevice, callFed, callGives, callSends, powerFed, powerGives, bufferSupplies, bufferAlert};
+ghost use Rattle.layout.specs.Layout.{size};
+ghost use Rattle.layout.specs.State.{deviceOf};
+ghost use Rattle.buffer.specs.Buffer.{stores, storeDevice, callFed, callGives, callSends, powerFed, powerGives, bufferSupplies, bufferAlert};
 ghost use Rattle.buffer.specs.Private.{Held, storeUnpaged, Answers};
-ghost use Rattle.buffer.specs.Layout.{size};
-use super::pages;
-use super::part::save_part;
-use super::steps::ready;
-use super::unpaged_part::load_unpaged;
-use super::unpaged_part::save_unpaged;
+use super::every_page;
+use layout::pages;
+use layout::part::save_part;
+use layout::state::ready;
+use layout::unpaged_part::load_unpaged;
+use layout::unpaged_part::save_unpaged;
 use lent::turns::Sending;
 
 fn measured(s: &mut [u8], page: u8, quantity: u8, word: u16) -> u8
@@ -21,7 +23,7 @@ fn measured(s: &mut [u8], page: u8, quantity: u8, word: u16) -> u8
     ensures { λ r. ⌜ (r ≡ step (deviceOf (now (s .entry))) (measure page quantity word) .done .answer)
         × (now (s .exit) ≡ storeDevice (stores (deviceOf (now (s .entry))) (measure page quantity word)) (now (s .entry)) (step (deviceOf (now (s .entry))) (measure page quantity word) .done .device)) ⌝ }
 {
-    let u = load_unpaged(s, super::UNPAGED);
+    let u = load_unpaged(s, layout::UNPAGED);
     let p = pages::page_at(s, page);
     let seen = stream::eight_valid();
     let t = lent::turns::measure_turn(seen, u, p, page, quantity, word);
@@ -29,7 +31,7 @@ fn measured(s: &mut [u8], page: u8, quantity: u8, word: u16) -> u8
     let q = t.page;
     let v = r.unpaged;
     pages::put_page(s, page, r.answer == answer::DONE, q);
-    save_unpaged(s, super::UNPAGED, v);
+    save_unpaged(s, layout::UNPAGED, v);
     r.answer
 }
 
@@ -48,11 +50,11 @@ fn sampled(s: &mut [u8], power: u16) -> u8
     ensures { λ r. ⌜ (r ≡ step (deviceOf (now (s .entry))) (sample power) .done .answer)
         × (now (s .exit) ≡ storeUnpaged (now (s .entry)) (step (deviceOf (now (s .entry))) (sample power) .done .device)) ⌝ }
 {
-    let u = load_unpaged(s, super::UNPAGED);
+    let u = load_unpaged(s, layout::UNPAGED);
     let seen = stream::eight_valid();
     let r = lent::turns::sample_outcome(seen, u, power);
     let v = r.unpaged;
-    save_unpaged(s, super::UNPAGED, v);
+    save_unpaged(s, layout::UNPAGED, v);
     r.answer
 }
 
@@ -72,9 +74,9 @@ fn ticked(s: &mut [u8]) -> u8
     ensures { λ r. ⌜ (r ≡ step (deviceOf (now (s .entry))) tick .done .answer)
         × (now (s .exit) ≡ storeDevice (stores (deviceOf (now (s .entry))) tick) (now (s .entry)) (step (deviceOf (now (s .entry))) tick .done .device)) ⌝ }
 {
-    let u = load_unpaged(s, super::UNPAGED);
-    pages::tick_each(s);
-    save_unpaged(s, super::UNPAGED, u);
+    let u = load_unpaged(s, layout::UNPAGED);
+    every_page::tick_each(s);
+    save_unpaged(s, layout::UNPAGED, u);
     answer::DONE
 }
 
@@ -93,7 +95,7 @@ fn alert_turn(s: &[u8], n: usize) -> Sending
     requires { ⌜ Held (now s) ⌝ }
     ensures { λ r. ⌜ Answers (now (s .entry)) (alertResponse n) r ⌝ }
 {
-    let u = load_unpaged(s, super::UNPAGED);
+    let u = load_unpaged(s, layout::UNPAGED);
     let seen = stream::eight_valid();
     lent::turns::alert_turn(seen, u, n)
 }
@@ -110,7 +112,7 @@ fn alerted(s: &mut [u8], reply: &mut [u8]) -> u8
     let r = t.outcome;
     let v = r.unpaged;
     reads::reply::send(reply, stream);
-    save_unpaged(s, super::UNPAGED, v);
+    save_unpaged(s, layout::UNPAGED, v);
     r.answer
 }
 
@@ -142,15 +144,15 @@ fn powered(s: &mut [u8])
     let p = bus::idle();
     let u = unpaged::power_on_unpaged();
     save_part(s, 0, p);
-    save_unpaged(s, super::UNPAGED, u);
-    pages::power_on_each(s);
+    save_unpaged(s, layout::UNPAGED, u);
+    every_page::power_on_each(s);
 }
 
 // Power-on of a buffer, whatever it holds: 0, or 15 for another length.
 pub fn power_on(s: &mut [u8]) -> u8
     ensures { λ r. ⌜ (r ≡ powerGives (now (s .entry))) × (now (s .exit) ≡ powerFed (now (s .entry))) ⌝ }
 {
-    if s.len() != super::SIZE {
+    if s.len() != layout::SIZE {
         return answer::INVALID_STATE;
     }
     powered(s);
@@ -169,20 +171,20 @@ fn supplying(s: &[u8], i: u8) -> bool
 pub fn supplies(s: &[u8], i: u8) -> u8
     ensures { λ r. ⌜ r ≡ bufferSupplies (now (s .entry)) i ⌝ }
 {
-    if s.len() != super::SIZE {
+    if s.len() != layout::SIZE {
         return 0;
     }
     let on = supplying(s, i);
-    super::leaf::byte_of(on)
+    layout::leaf::byte_of(on)
 }
 
 // Whether the alert is up: 1 or 0.
 pub fn alert(s: &[u8]) -> u8
     ensures { λ r. ⌜ r ≡ bufferAlert (now (s .entry)) ⌝ }
 {
-    if s.len() != super::SIZE {
+    if s.len() != layout::SIZE {
         return 0;
     }
-    let u = load_unpaged(s, super::UNPAGED);
-    super::leaf::byte_of(u.alert)
+    let u = load_unpaged(s, layout::UNPAGED);
+    layout::leaf::byte_of(u.alert)
 }

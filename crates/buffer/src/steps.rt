@@ -1,46 +1,22 @@
 // The five events over a state buffer.
 ghost use mathlib.Core.Path.{_≡_};
 ghost use mathlib.Core.Bool.{cond};
-ghost use lib.ListN.{length};
 ghost use Rattle.bus.specs.Automaton.{start, byte, again, clock, stop};
 ghost use Rattle.bus.specs.Part.{heard};
 ghost use Rattle.bus.specs.Ack.{ackOf};
 ghost use Rattle.device.specs.Step.{read, step};
-ghost use Rattle.stream.specs.Stream.{stateValid};
-ghost use Rattle.buffer.specs.Buffer.{decode, ready, partOf, deviceOf, eventFed, eventGives};
+ghost use Rattle.layout.specs.State.{partOf, deviceOf};
+ghost use Rattle.buffer.specs.Buffer.{eventFed, eventGives};
 ghost use Rattle.buffer.specs.Private.{Keeping, storeReply};
-ghost use Rattle.buffer.specs.Layout.{size};
-use super::leaf::byte_of;
-use super::leaf::put_bytes;
-use super::page_record::load_page;
-use super::pages;
-use super::part::keep;
-use super::part::load_part;
-use super::part::save_part;
 use super::stopping;
-use super::unpaged_part::load_unpaged;
-
-fn holds_valid(s: &[u8]) -> bool
-    requires { ⌜ length (now s) ≡ size ⌝ }
-    ensures { λ r. ⌜ r ≡ stateValid (decode (now (s .entry))) ⌝ }
-{
-    let p = load_part(s, 0);
-    let u = load_unpaged(s, super::UNPAGED);
-    let part = bus::part_valid(p);
-    let unpaged = unpaged::unpaged_valid(8, u);
-    let pages = pages::all_valid(s);
-    part & (unpaged & pages)
-}
-
-// The right length, and a state that gets no 15.
-pub fn ready(s: &[u8]) -> bool
-    ensures { λ r. ⌜ r ≡ ready (now (s .entry)) ⌝ }
-{
-    if s.len() != super::SIZE {
-        return false;
-    }
-    holds_valid(s)
-}
+use layout::leaf::byte_of;
+use layout::leaf::put_bytes;
+use layout::pages;
+use layout::part::keep;
+use layout::part::load_part;
+use layout::part::save_part;
+use layout::state::ready;
+use layout::unpaged_part::load_unpaged;
 
 // START: 0, or 15.
 pub fn start(s: &mut [u8]) -> u8
@@ -76,15 +52,14 @@ fn acknowledged(s: &[u8], b: u8) -> bool
     bus::ack::ack_in(s[0], &s[2..e], b)
 }
 
-// The reply to the bytes kept, of the selected page alone.
+// The reply to the bytes kept, of the page shown alone.
 fn reply(s: &[u8]) -> [u8; 8]
     requires { ⌜ Keeping (now s) ⌝ }
     ensures { λ r. ⌜ r ≡ step (deviceOf (now (s .entry))) (read (heard (partOf (now (s .entry)))) 8) .reply ⌝ }
 {
-    let u = load_unpaged(s, super::UNPAGED);
-    let k = (u.page % 8) as usize;
-    let o = super::PAGES + super::PAGE * k;
-    let page = load_page(s, o);
+    let u = load_unpaged(s, layout::UNPAGED);
+    let k = unpaged::shown(u);
+    let page = pages::page_at(s, k);
     let e = 2 + (s[1] as usize);
     stream::reply(u, page, &s[2..e])
 }
@@ -96,7 +71,7 @@ fn answer(s: &mut [u8], second: bool)
 {
     if second {
         let bytes = reply(s);
-        put_bytes(s, super::REPLY, &bytes);
+        put_bytes(s, layout::REPLY, &bytes);
     }
 }
 

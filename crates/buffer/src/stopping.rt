@@ -3,12 +3,14 @@ ghost use mathlib.Core.Path.{_≡_};
 ghost use Rattle.bus.specs.Part.{heard};
 ghost use Rattle.device.specs.Step.{write, read, refusedDevice, step};
 ghost use Rattle.stream.specs.Stream.{ended};
-ghost use Rattle.buffer.specs.Buffer.{deviceOf, stores, endStores, storeDevice};
+ghost use Rattle.layout.specs.State.{deviceOf};
+ghost use Rattle.buffer.specs.Buffer.{stores, endStores, storeDevice};
 ghost use Rattle.buffer.specs.Private.{Held, storeUnpaged};
-use super::pages;
-use super::unpaged_part::load_unpaged;
-use super::unpaged_part::save_unpaged;
+use super::every_page;
 use bus::Part;
+use layout::pages;
+use layout::unpaged_part::load_unpaged;
+use layout::unpaged_part::save_unpaged;
 
 // A write: the selected page, or every page, and the unpaged part change where they stand.
 fn written(s: &mut [u8], kept: Part) -> u8
@@ -16,18 +18,19 @@ fn written(s: &mut [u8], kept: Part) -> u8
     ensures { λ r. ⌜ (r ≡ step (deviceOf (now (s .entry))) (write (heard kept)) .done .answer)
         × (now (s .exit) ≡ storeDevice (stores (deviceOf (now (s .entry))) (write (heard kept))) (now (s .entry)) (step (deviceOf (now (s .entry))) (write (heard kept)) .done .device)) ⌝ }
 {
-    let u = load_unpaged(s, super::UNPAGED);
+    let u = load_unpaged(s, layout::UNPAGED);
     let p = pages::page_at(s, u.page);
-    let w = stream::asked_by(kept);
-    let t = stream::write_turn(u, p, kept, w);
+    let j = stream::judged(u, kept);
+    let w = j.write;
+    let t = lent::turns::write_left(u, p, j.answer, w);
     let r = t.outcome;
     let q = t.page;
     pages::put_page(s, u.page, r.answer == answer::DONE, q);
-    let rose = pages::every(s, w, t.every);
-    let standing = pages::any_bit(s, t.clears);
+    let rose = every_page::every(s, w, t.every);
+    let standing = every_page::any_bit(s, t.clears);
     let o = lent::turns::finished(r, t.clears, rose, standing);
     let v = o.unpaged;
-    save_unpaged(s, super::UNPAGED, v);
+    save_unpaged(s, layout::UNPAGED, v);
     o.answer
 }
 
@@ -36,9 +39,9 @@ fn refuse(s: &mut [u8], answer: u8)
     requires { ⌜ Held (now s) ⌝ }
     ensures { λ _. ⌜ now (s .exit) ≡ storeUnpaged (now (s .entry)) (refusedDevice (deviceOf (now (s .entry))) answer) ⌝ }
 {
-    let u = load_unpaged(s, super::UNPAGED);
+    let u = load_unpaged(s, layout::UNPAGED);
     let v = unpaged::refused(u, answer);
-    save_unpaged(s, super::UNPAGED, v);
+    save_unpaged(s, layout::UNPAGED, v);
 }
 
 // A read: its reply was made at the second address byte.
@@ -47,8 +50,10 @@ fn finished(s: &mut [u8], kept: Part) -> u8
     ensures { λ r. ⌜ (r ≡ step (deviceOf (now (s .entry))) (read (heard kept) (kept .clocked)) .done .answer)
         × (now (s .exit) ≡ storeUnpaged (now (s .entry)) (step (deviceOf (now (s .entry))) (read (heard kept) (kept .clocked)) .done .device)) ⌝ }
 {
-    let u = load_unpaged(s, super::UNPAGED);
-    let answer = stream::read_answer(u, kept);
+    let u = load_unpaged(s, layout::UNPAGED);
+    let k = unpaged::shown(u);
+    let p = pages::page_at(s, k);
+    let answer = stream::read_answer(u, p, kept);
     refuse(s, answer);
     answer
 }

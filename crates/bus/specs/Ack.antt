@@ -3,7 +3,7 @@
 use Prim.Native.Nat.{ℕ, _+_, _≤_}
 use mathlib.Core.Path.{_≡_}
 use mathlib.Core.Logic.{_↔_}
-use mathlib.Core.Bool.{Bool, true, false, cond, _&&_, _||_}
+use mathlib.Core.Bool.{Bool, true, false, cond, _&&_}
 use mathlib.Core.List.{List}
 use lib.ListN.{length, getD}
 use lib.Dec.{ltb, eqb}
@@ -13,7 +13,7 @@ use Rattle.bus.specs.Part.{heard, writing, turning}
 
 -- the table has the code (data sheet 3.1)
 unfoldable pub known : ℕ → Bool
-known code = lookup code .written || lookup code .read
+known code = lookup code .known
 
 -- behind the bytes s, which are an address byte and a code at least, is still a place for data or packet check
 unfoldable pub roomBehind : List ℕ → Bool

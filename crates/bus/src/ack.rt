@@ -1,24 +1,15 @@
 // ACK and NACK. The bytes s are those kept of a transaction, b is the byte behind them.
 ghost use mathlib.Core.Path.{_≡_};
-ghost use mathlib.Core.Bool.{_||_};
 ghost use Prim.Native.Nat.{_≤_};
 ghost use lib.ListN.{length};
 ghost use Rattle.bus.specs.Ack.{known, roomBehind, orderly, ackedFirst, ackedSecond, ackIn};
-use command::table::Entry;
-
-// An entry that is one of the table's.
-fn listed(e: Entry) -> bool
-    ensures { λ r. ⌜ r ≡ (e .written || e .read) ⌝ }
-{
-    e.written | e.read
-}
 
 // The table has the code.
 fn known(code: u8) -> bool
     ensures { λ r. ⌜ r ≡ known code ⌝ }
 {
     let e = command::lookup(code);
-    listed(e)
+    e.known
 }
 
 // Data or packet check still have a place behind s.
@@ -27,7 +18,7 @@ fn room_behind(s: &[u8]) -> bool
     ensures { λ r. ⌜ r ≡ roomBehind (now (s .entry)) ⌝ }
 {
     let e = command::lookup(s[1]);
-    listed(e) & (s.len() < e.length as usize + 3)
+    e.known & (s.len() < e.length as usize + 3)
 }
 
 // Before a repeated START.

@@ -22,6 +22,7 @@ pub regular-cause : (n : ℕ) → n < 6 → RegularCause n
 unfolding causes warnings
 regular-cause n h = record {
   bit = agree (λ n. limitOf n .bitNumber) (λ n. faultBit (limitOf n .side)) 6 tt n h;
+  start = agree (λ n. limitOf n .startsFrom) (λ n. n) 6 tt n h;
   next = agree (λ n. responseOf n .responseCode) (λ n. limitOf n .limitCode + 1) 6 tt n h;
   careful = agree-test (λ n. staysOffAt (responseOf n .actions) (responseOf n .powerOnResponse)) (λ n. true) 6 tt n h;
 }
@@ -41,7 +42,7 @@ regular-warning i h = record {
   quantity = agree (λ i. limitOf (6 + i) .quantity) (λ i. limitOf (getD warned i 0) .quantity) 5 tt i h;
   side = sides i h;
   bit = agree (λ i. limitOf (6 + i) .bitNumber) (λ i. warningBit (limitOf (6 + i) .side) (limitOf (6 + i) .quantity)) 5 tt i h;
-  powerOn = agree (λ i. limitOf (6 + i) .powerOnLimit) (λ i. limitOf (getD warned i 0) .powerOnLimit) 5 tt i h;
+  start = agree (λ i. limitOf (6 + i) .startsFrom) (λ i. getD warned i 0) 5 tt i h;
 }
 
 pub table-regular : TableRegular

@@ -31,7 +31,7 @@ pub data Side : Type 0 where
   below : Side
 
 -- What a limit is for: its number among the limits, its code, the quantity that is held against it, the side that counts, the register and
--- the bit that show it, and its word at power-on.
+-- the bit that show it, and the number of the cause whose limit it starts from at power-on: its own, or that of the fault it warns of.
 pub record Limit : Type 0 where
   pub number : ℕ
   pub limitCode : ℕ
@@ -39,7 +39,7 @@ pub record Limit : Type 0 where
   pub side : Side
   pub statusCode : ℕ
   pub bitNumber : ℕ
-  pub powerOnLimit : ℕ
+  pub startsFrom : ℕ
 
 -- the meanings of a response byte (data sheet 3.6): those of voltages and temperatures, by its action, retries and delay, and those of currents
 pub data Actions : Type 0 where
@@ -72,48 +72,49 @@ pub record Response : Type 0 where
   pub actions : Actions
   pub powerOnResponse : ℕ
 
--- a limit whose crossing is a fault
+-- a limit whose crossing is a fault, its word at power-on, and its response
 pub record Cause : Type 0 where
   pub limit : Limit
+  pub powerOnLimit : ℕ
   pub response : Response
 
 abbrev pub limit : ℕ → ℕ → ℕ → Side → ℕ → ℕ → ℕ → Limit
-limit n code q s status b w = record {
+limit n code q s status b from = record {
   number = n;
   limitCode = code;
   quantity = q;
   side = s;
   statusCode = status;
   bitNumber = b;
-  powerOnLimit = w;
+  startsFrom = from;
 }
 
 abbrev pub response : ℕ → Actions → ℕ → Response
 response code a x = record { responseCode = code; actions = a; powerOnResponse = x }
 
-abbrev pub cause : Limit → Response → Cause
-cause l r = record { limit = l; response = r }
+abbrev pub cause : Limit → ℕ → Response → Cause
+cause l w r = record { limit = l; powerOnLimit = w; response = r }
 
--- Data sheet 6.1, with the power-on values of 3.1. A limit: number, code, quantity, side, status register, bit, word at power-on. Its response:
--- code, meanings, byte at power-on.
+-- Data sheet 6.1, with the power-on values of 3.1. A limit: number, code, quantity, side, status register, bit, the cause it starts from. Its
+-- word at power-on. Its response: code, meanings, byte at power-on.
 unfoldable pub causes : List Cause
 causes =
-    cause (limit 0 0x40 VOUT above 0x7A 7 0x2A3D) (response 0x41 voltage 0x80)  -- VOUT_OV
-    ∷ cause (limit 1 0x46 IOUT above 0x7B 7 0xD280) (response 0x47 current 0xC0)  -- IOUT_OC
-    ∷ cause (limit 2 0x4F TEMPERATURE above 0x7D 7 0xEB70) (response 0x50 voltage 0x80)  -- OT
-    ∷ cause (limit 3 0x53 TEMPERATURE below 0x7D 4 0xEEC0) (response 0x54 voltage 0x80)  -- UT
-    ∷ cause (limit 4 0x55 VIN above 0x7C 7 0xD3FF) (response 0x56 voltage 0x80)  -- VIN_OV
-    ∷ cause (limit 5 0x59 VIN below 0x7C 4 0xC3F5) (response 0x5A voltage 0x80)  -- VIN_UV
+    cause (limit 0 0x40 VOUT above 0x7A 7 0) 0x2A3D (response 0x41 voltage 0x80)  -- VOUT_OV
+    ∷ cause (limit 1 0x46 IOUT above 0x7B 7 1) 0xD280 (response 0x47 current 0xC0)  -- IOUT_OC
+    ∷ cause (limit 2 0x4F TEMPERATURE above 0x7D 7 2) 0xEB70 (response 0x50 voltage 0x80)  -- OT
+    ∷ cause (limit 3 0x53 TEMPERATURE below 0x7D 4 3) 0xEEC0 (response 0x54 voltage 0x80)  -- UT
+    ∷ cause (limit 4 0x55 VIN above 0x7C 7 4) 0xD3FF (response 0x56 voltage 0x80)  -- VIN_OV
+    ∷ cause (limit 5 0x59 VIN below 0x7C 4 5) 0xC3F5 (response 0x5A voltage 0x80)  -- VIN_UV
     ∷ []
 
--- Data sheet 6.13: limits without a response, whose crossing is a warning. At power-on each has the word of its cause's limit.
+-- Data sheet 6.13: limits without a response, whose crossing is a warning. At power-on each has the word of the fault limit it warns of.
 unfoldable pub warnings : List Limit
 warnings =
-    limit 6 0x42 VOUT above 0x7A 6 0x2A3D  -- VOUT_OV
-    ∷ limit 7 0x4A IOUT above 0x7B 5 0xD280  -- IOUT_OC
-    ∷ limit 8 0x51 TEMPERATURE above 0x7D 6 0xEB70  -- OT
-    ∷ limit 9 0x57 VIN above 0x7C 6 0xD3FF  -- VIN_OV
-    ∷ limit 10 0x58 VIN below 0x7C 5 0xC3F5  -- VIN_UV
+    limit 6 0x42 VOUT above 0x7A 6 0  -- VOUT_OV
+    ∷ limit 7 0x4A IOUT above 0x7B 5 1  -- IOUT_OC
+    ∷ limit 8 0x51 TEMPERATURE above 0x7D 6 2  -- OT
+    ∷ limit 9 0x57 VIN above 0x7C 6 4  -- VIN_OV
+    ∷ limit 10 0x58 VIN below 0x7C 5 5  -- VIN_UV
     ∷ []
 
 abbrev pub faults : List Limit
@@ -122,6 +123,14 @@ faults = map (λ c. c .limit) causes
 -- all eleven limits, in the order of the numbers
 abbrev pub limits : List Limit
 limits = faults ++ warnings
+
+-- the words at power-on of the six fault limits,
+abbrev pub powerOnLimits : List ℕ
+powerOnLimits = map (λ c. c .powerOnLimit) causes
+
+-- and of all eleven, where those of the fault limits are ws
+abbrev pub startsWith : List ℕ → List ℕ
+startsWith ws = map (λ l. getD ws (l .startsFrom) 0) limits
 
 -- the responses of the six causes
 abbrev pub responses : List Response

@@ -32,6 +32,8 @@ pub record Regular (n : ℕ) : Type 0 where
 
 pub record RegularCause (n : ℕ) : Type 0 where
   pub bit : limitOf n .bitNumber ≡ faultBit (limitOf n .side)
+  -- its word at power-on is its own
+  pub start : limitOf n .startsFrom ≡ n
   -- the response's code follows the limit's
   pub next : responseOf n .responseCode ≡ limitOf n .limitCode + 1
   -- at power-on a supply that meets the cause shuts down and stays off
@@ -42,7 +44,8 @@ pub record RegularWarning (n m : ℕ) : Type 0 where
   pub quantity : limitOf n .quantity ≡ limitOf m .quantity
   pub side : limitOf n .side ≡ limitOf m .side
   pub bit : limitOf n .bitNumber ≡ warningBit (limitOf n .side) (limitOf n .quantity)
-  pub powerOn : limitOf n .powerOnLimit ≡ limitOf m .powerOnLimit
+  -- its word at power-on is that limit's
+  pub start : limitOf n .startsFrom ≡ m
 
 -- the codes of the k + 1 lines from n on rise
 abbrev pub Rise : ℕ → ℕ → Type 0

@@ -2,7 +2,7 @@
 -- Assumes nothing.
 use Prim.Native.Nat.{ℕ, _<_}
 use mathlib.Core.Path.{_≡_, refl, sym, ap, _∙_}
-use mathlib.Core.Bool.{Bool, false, _||_}
+use mathlib.Core.Bool.{Bool, false}
 use Rattle.laws.proofs.Every.{agree}
 use Rattle.command.specs.declared.table.Row.{Row}
 use Rattle.command.specs.declared.meaning.Command.{Command}
@@ -24,11 +24,11 @@ rows c h = λ i. (codes i, access i, lengths i)
     lengths : rowIn table c .2 ≡ rowOf c (commandOf c) .2
     lengths = agree (λ c. rowIn table c .2) (λ c. rowOf c (commandOf c) .2) 256 tt c h
 
--- whether a row is written or read
+-- whether a row is one of the table's
 abbrev used : Row → Bool
-used e = entryOf e .written || entryOf e .read
+used e = entryOf e .known
 
--- of the kinds only Absent is neither
+-- of the kinds only Absent has none
 unused : (c : ℕ) (k : Command) → used (rowOf c k) ≡ false → k ≡ Absent
 unfolding rowOf entryOf
 unused c SelectPage h = cc

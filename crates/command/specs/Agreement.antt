@@ -2,11 +2,11 @@
 -- Assumes nothing.
 use Prim.Native.Nat.{ℕ, _<_}
 use mathlib.Core.Path.{_≡_}
-use mathlib.Core.Bool.{false, _||_}
+use mathlib.Core.Bool.{false}
 use Rattle.command.specs.declared.table.Row.{Row}
 use Rattle.command.specs.declared.meaning.Command.{Command}
 use Rattle.command.specs.declared.meaning.Command.the-variants.{SelectPage, Operation, ClearFaults, WriteProtect, Capability, VoutMode, VoutCommand, Limit, Response, StatusByte, StatusWord, Status, ReadEin, Reading, Revision, Absent}
-use Rattle.command.specs.Table.{table, rowIn, lookup, R, W, RW}
+use Rattle.command.specs.Table.{table, rowIn, lookup, NONE, R, W, RW}
 use Rattle.command.specs.Meaning.{commandOf}
 
 -- the row of a code c that means this command
@@ -26,14 +26,14 @@ rowOf c (Status k) = (c, RW, 1)
 rowOf c ReadEin = (c, R, 7)
 rowOf c (Reading q) = (c, R, 2)
 rowOf c Revision = (c, R, 1)
-rowOf c Absent = (c, 0, 0)
+rowOf c Absent = (c, NONE, 0)
 
 -- the two agree on the code c
 pub record Agrees (c : ℕ) : Type 0 where
   pub row : rowIn table c ≡ rowOf c (commandOf c)
   -- Absent exactly where the table has no entry
-  pub absent : (lookup c .written || lookup c .read) ≡ false → commandOf c ≡ Absent
-  pub no-entry : commandOf c ≡ Absent → (lookup c .written || lookup c .read) ≡ false
+  pub absent : lookup c .known ≡ false → commandOf c ≡ Absent
+  pub no-entry : commandOf c ≡ Absent → lookup c .known ≡ false
 
 -- for every code, in the table or not
 unfoldable pub TableAgrees : Type 0

@@ -8,7 +8,10 @@ use lib.Dec.{eqb}
 use Rattle.command.specs.declared.table.Row.{Row}
 use Rattle.command.specs.declared.table.Entry.{Entry}
 
--- access: read, written, both
+-- access: none, where the table has no row; read, written, both
+abbrev pub NONE : ℕ
+NONE = 0
+
 abbrev pub R : ℕ
 R = 1
 
@@ -62,12 +65,17 @@ table =
 
 -- the row of the code c, with no access where there is none
 abbrev pub rowIn : List Row → ℕ → Row
-rowIn [] c = (c, 0, 0)
+rowIn [] c = (c, NONE, 0)
 rowIn (e ∷ l) c = cond (eqb (e .0) c) e (rowIn l c)
 
--- what a row says
+-- what a row says; a code is known where it has an access, whatever the access is
 unfoldable pub entryOf : Row → Entry
-entryOf e = record { written = not (eqb (bitAnd (e .1) W) 0); read = not (eqb (bitAnd (e .1) R) 0); length = e .2 }
+entryOf e = record {
+  written = not (eqb (bitAnd (e .1) W) 0);
+  read = not (eqb (bitAnd (e .1) R) 0);
+  length = e .2;
+  known = not (eqb (e .1) NONE);
+}
 
 -- what the table says of the code c
 unfoldable pub lookup : ℕ → Entry

@@ -5,7 +5,9 @@ ghost use Rattle.command.specs.Table.{rowIn, entryOf, lookup};
 // A row: code, access, number of data bytes (a PEC byte not counted).
 pub struct Row(pub u8, pub u8, pub u8);
 
-// Access: read, written, both.
+// Access: none, where the table has no row; read, written, both.
+const NONE: u8 = 0;
+
 const R: u8 = 1;
 
 const W: u8 = 2;
@@ -52,11 +54,13 @@ const TABLE: [Row; 37] = [
     Row(0x98, R, 1), // PMBUS_REVISION
 ];
 
-// A row with its access told apart. A code that the table lacks is neither written nor read.
+// A row with its access told apart; known is false for a code that the table lacks. A row may be known and yet neither written
+// nor read by itself.
 pub struct Entry {
     pub written: bool,
     pub read: bool,
     pub length: u8,
+    pub known: bool,
 }
 
 // The row of a code, with no access where t has none.
@@ -71,7 +75,7 @@ fn row_in(t: [Row; 37], code: u8) -> Row
         }
         i += 1;
     }
-    Row(code, 0, 0)
+    Row(code, NONE, 0)
 }
 
 fn entry_of(row: Row) -> Entry
@@ -81,6 +85,7 @@ fn entry_of(row: Row) -> Entry
         written: row.1 & W != 0,
         read: row.1 & R != 0,
         length: row.2,
+        known: row.1 != NONE,
     }
 }
 

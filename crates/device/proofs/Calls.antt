@@ -2,29 +2,30 @@
 -- Assumes nothing.
 use Prim.Native.Nat.{ℕ, _%_, _<_}
 use mathlib.Core.Path.{_≡_, refl, sym, ap, _∙_}
-use mathlib.Core.Bool.{Bool, true, false, cond, or-false, false≢true}
+use mathlib.Core.Bool.{Bool, true, false, cond, or-false, false≢true, and-eq-true-iff}
 use mathlib.Core.List.{List}
 use native.Mathlib.Omega.{arith}
 use lib.Dec.{eqb, ltb, leb}
 use lib.ListN.{length, getD}
 use borrow.Author.Tests.{ltb-true, leb-false, eqb-true}
 use Rattle.laws.proofs.Branches.{either}
-use Rattle.command.specs.Paged.{paged}
 use Rattle.page.specs.declared.Page.{Page}
 use Rattle.page.specs.Page.{noPage}
-use Rattle.unpaged.specs.Unpaged.{validPage, everyPage, cmlBits}
+use Rattle.unpaged.specs.Unpaged.{validPage, everyPage, cmlBits, shown}
 use Rattle.unpaged.specs.Events.{measureAnswer}
 use Rattle.writes.specs.declared.asked.Write.{Write}
 use Rattle.writes.specs.Asked.{asked}
-use Rattle.reads.specs.Answers.{readAnswer, answersData}
+use Rattle.reads.specs.declared.request.Request.{Request}
+use Rattle.reads.specs.Request.{requestOf}
+use Rattle.reads.specs.Answers.{requestAnswer, readAnswer, answersData}
 use Rattle.reads.specs.Data.{readStream}
 use Rattle.reads.specs.Reply.{stream, streamOf, replyOf}
 use Rattle.reads.specs.declared.reply.Stream.{Stream}
 use Rattle.reads.proofs.Streams.{stream-bytes}
-use Rattle.reads.proofs.EveryPage.{same-data, no-data}
+use Rattle.reads.proofs.Fill.{getD-any as within}
 use Rattle.reads.proofs.Lengths.{stream-length, alert-length}
 use Rattle.device.specs.declared.Device.{Device}
-use Rattle.device.specs.Device.{deviceValid}
+use Rattle.device.specs.Device.{deviceValid, supported, pageOf, pageShown}
 use Rattle.device.specs.Step.{Call, write, read, measure, alertResponse, answerOf, answered, written, effect, refusedDevice, left, sent, clocked, done, step}
 use Rattle.device.proofs.States.{valid-parts, answered-valid, answer-zero}
 use Rattle.device.proofs.Refused.{device-stays}
@@ -78,34 +79,42 @@ module _ (d : Device) where
   read-left header n a =
       either (eqb a 0) (λ y. rw y (device-stays d a (ap cmlBits (eqb-true a 0 y)))) (λ e. rw e)
 
-  -- what is sent of the selected page, taken out of eight by its number's remainder
-  pub sent-selected : (header : List ℕ) (n a : ℕ) → length (d .pages) ≡ 8 → a ≡ answered d (read header n)
-      → readStream (d .unpaged) (getD (d .pages) (d .unpaged .page % 8) noPage) a (getD header 1 0) ≡ sent d (read header n) a
-  unfolding sent readStream answered answerOf answersData
-  sent-selected header n a long e =
-      either (deviceValid d) (λ v. either (everyPage (d .unpaged)) (everywhere v) (λ one.
-      let h = one-small (valid-page v) one in
-      let same : d .unpaged .page % 8 ≡ d .unpaged .page = omega arith in
-      ap (λ (i : ℕ). readStream (d .unpaged) (getD (d .pages) i noPage) a (getD header 1 0)) same))
-      (λ v. let z : a ≡ 15 = e ∙ rw v in rw z)
-    where
-      p : Page
-      p = getD (d .pages) (d .unpaged .page % 8) noPage
+  -- the page shown is one of them,
+  shown-small : deviceValid d ≡ true → shown (d .unpaged) < length (d .pages)
+  unfolding shown supported
+  shown-small v =
+      let some = ltb-true 0 (length (d .pages)) (and-eq-true-iff (ltb 0 (length (d .pages))) _ .0 (valid-parts d v .number) .0) in
+      either (everyPage (d .unpaged)) (λ e. rw e some) (λ one. rw one (one-small (valid-page v) one))
 
-      q : Page
-      q = getD (d .pages) (d .unpaged .page) noPage
+  -- taken out of eight by its number's remainder, or out of any number whatever stands past their end
+  pub shown-of-eight : length (d .pages) ≡ 8 → deviceValid d ≡ true → pageOf d (shown (d .unpaged) % 8) ≡ pageShown d
+  shown-of-eight long v =
+      let h = shown-small v in
+      let same : shown (d .unpaged) % 8 ≡ shown (d .unpaged) = omega arith in
+      ap (pageOf d) same
 
-      everywhere : deviceValid d ≡ true → everyPage (d .unpaged) ≡ true
-          → readStream (d .unpaged) p a (getD header 1 0) ≡ readStream (d .unpaged) q a (getD header 1 0)
-      everywhere v every =
-          either (paged (getD header 1 0))
-          (λ y. let read : a ≡ readAnswer (d .unpaged) header n = e ∙ rw v in
-          let none : answersData a ≡ false = ap answersData read ∙ no-data (d .unpaged) header n every y in rw none)
-          (λ n. rw (same-data (d .unpaged) p q (getD header 1 0) n))
+  pub shown-of-any : (q : Page) → deviceValid d ≡ true → getD (d .pages) (shown (d .unpaged)) q ≡ pageShown d
+  shown-of-any q v = within (d .pages) (shown (d .unpaged)) q noPage (shown-small v)
+
+  -- a read that asks for r, of a page p that is the one shown where the state is valid: its answer,
+  module _ (header : List ℕ) (n a : ℕ) (r : Request) (p : Page) (asks : r ≡ requestOf header) (is : deviceValid d ≡ true → p ≡ pageShown d) where
+    pub read-made : (valid : Bool) (rule : ℕ) → valid ≡ deviceValid d → rule ≡ requestAnswer (d .unpaged) p r n → a ≡ cond valid rule 15
+        → a ≡ answered d (read header n)
+    unfolding answered answerOf readAnswer
+    read-made valid rule v e z =
+        z ∙ either (deviceValid d) (λ y. rw (v, y, e, asks, is y)) (λ no. rw (v, no))
+
+    -- and what it sends
+    pub sent-shown : a ≡ answered d (read header n) → readStream (d .unpaged) p a r header ≡ sent d (read header n) a
+    unfolding sent readStream answered answersData
+    sent-shown e =
+        either (deviceValid d)
+        (λ y. rw (asks, is y))
+        (λ no. let z : a ≡ 15 = e ∙ rw no in rw z)
 
   pub read-bytes : (header : List ℕ) (n a : ℕ) → streamOf (stream (sent d (read header n) a)) ≡ sent d (read header n) a
   unfolding sent
-  read-bytes header n a = stream-bytes _ (stream-length (d .unpaged) (getD (d .pages) (d .unpaged .page) noPage) a (getD header 1 0))
+  read-bytes header n a = stream-bytes _ (stream-length (d .unpaged) (pageShown d) a (requestOf header) header)
 
   pub alert-bytes : (n a : ℕ) → streamOf (stream (sent d (alertResponse n) a)) ≡ sent d (alertResponse n) a
   unfolding sent

@@ -3,28 +3,51 @@
 -- Assumes nothing.
 use Prim.Native.Nat.{ℕ}
 use mathlib.Core.Bool.{Bool, _&&_, _||_}
-use mathlib.Core.List.{List}
+use mathlib.Core.List.{List, map}
 use lib.ListN.{length, getD, replicate}
 use lib.Dec.{ltb}
 use Rattle.laws.specs.Lists.{allOf, anyOf, anyPair}
 use Rattle.page.specs.declared.Page.{Page}
-use Rattle.page.specs.Page.{powerOnPage, noPage}
+use Rattle.page.specs.Page.{noPage}
+use Rattle.page.specs.Choice.{PageChoice, usualPage, pageGranted, chosenPage}
 use Rattle.page.specs.Settings.{pageValid}
 use Rattle.page.specs.Status.{any, anyStatus, gains, risen}
 use Rattle.unpaged.specs.declared.Unpaged.{Unpaged}
-use Rattle.unpaged.specs.Unpaged.{powerOnUnpaged, unpagedValid, withAlert}
+use Rattle.unpaged.specs.Unpaged.{powerOnUnpaged, unpagedValid, withAlert, shown}
 use Rattle.device.specs.declared.Device.{Device}
 
 abbrev pub device : Unpaged → List Page → Device
 device u ps = record { unpaged = u; pages = ps }
 
--- a device of n pages after power-on (data sheet 1.4)
-unfoldable pub powerOn : ℕ → Device
-powerOn n = device powerOnUnpaged (replicate n powerOnPage)
+-- What is chosen at power-on: for each page something, and so how many pages there are. What is chosen for the whole device is a field more.
+pub record Choice : Type 0 where
+  pub pages : List PageChoice
+
+abbrev pub numberOf : Choice → ℕ
+numberOf x = length (x .pages)
+
+-- for page i
+abbrev pub choiceAt : Choice → ℕ → PageChoice
+choiceAt x i = getD (x .pages) i usualPage
+
+-- n pages and nothing else chosen; the shelf device is the case 8
+unfoldable pub usual : ℕ → Choice
+usual n = record { pages = replicate n usualPage }
 
 -- a device has one to ninety-six pages
 unfoldable pub supported : ℕ → Bool
 supported n = ltb 0 n && ltb n 97
+
+-- the choices that power-on grants
+unfoldable pub granted : Choice → Bool
+granted x = supported (numberOf x) && allOf pageGranted (x .pages)
+
+-- the device after power-on (data sheet 1.4): its unpaged part, and each page by its choice
+unfoldable pub chosenUnpaged : Choice → Unpaged
+chosenUnpaged x = powerOnUnpaged
+
+unfoldable pub powerOn : Choice → Device
+powerOn x = device (chosenUnpaged x) (map chosenPage (x .pages))
 
 -- Every other state gets answer 15: PAGE, WRITE_PROTECT, the account, and OPERATION, the responses and the machines of every page are looked at,
 -- and nothing else (data sheet 12.2).
@@ -34,6 +57,10 @@ deviceValid d = supported (length (d .pages)) && unpagedValid (length (d .pages)
 -- page i; a call that gets this far has it
 abbrev pub pageOf : Device → ℕ → Page
 pageOf d i = getD (d .pages) i noPage
+
+-- the page that a read looks at
+abbrev pub pageShown : Device → Page
+pageShown d = pageOf d (shown (d .unpaged))
 
 -- some bit of STATUS_CML or of a page's four registers is 1,
 abbrev pub standing : Device → Bool

@@ -1,3 +1,4 @@
 pub mod Device
 pub mod Step
 pub mod Supply
+pub mod Touches

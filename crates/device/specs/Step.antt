@@ -4,7 +4,7 @@
 use Prim.Native.Nat.{ℕ}
 use mathlib.Core.Bool.{Bool, cond, false}
 use mathlib.Core.List.{List, [], map}
-use lib.ListN.{length, getD}
+use lib.ListN.{length}
 use lib.Dec.{eqb}
 use Rattle.laws.specs.Lists.{mapAt}
 use Rattle.account.specs.Account.{sampled}
@@ -17,12 +17,13 @@ use Rattle.writes.specs.declared.asked.Write.{Write}
 use Rattle.writes.specs.Asked.{asked}
 use Rattle.writes.specs.Answers.{writeAnswer}
 use Rattle.writes.specs.Left.{pageLeft, unpagedLeft, clearing}
+use Rattle.reads.specs.Request.{requestOf}
 use Rattle.reads.specs.Answers.{readAnswer}
 use Rattle.reads.specs.Data.{readStream}
 use Rattle.reads.specs.Reply.{replyOf, alertStream}
 use Rattle.device.specs.declared.Device.{Device}
 use Rattle.device.specs.declared.Done.{Done}
-use Rattle.device.specs.Device.{device, deviceValid, pageOf, alertRisen, alertStanding}
+use Rattle.device.specs.Device.{device, deviceValid, pageShown, alertRisen, alertStanding}
 
 pub data Call : Type 0 where
   -- a write transaction: the bytes from START to STOP
@@ -41,7 +42,7 @@ pub data Call : Type 0 where
 -- the answer of a call to a valid state
 unfoldable pub answerOf : Device → Call → ℕ
 answerOf d (write s) = writeAnswer (length (d .pages)) (d .unpaged) s
-answerOf d (read header n) = readAnswer (d .unpaged) header n
+answerOf d (read header n) = readAnswer (d .unpaged) (pageShown d) header n
 answerOf d (measure page quantity word) = measureAnswer (length (d .pages)) page quantity
 answerOf d (sample n) = sampled (d .unpaged .energy) n .answer
 answerOf d (alertResponse n) = alertAnswer (d .unpaged .alert) n
@@ -88,7 +89,7 @@ left d c answer = cond (eqb answer 0) (effect d c) (refusedDevice d answer)
 -- the bytes sent with an answer, made from the state handed in (data sheet 11.7)
 unfoldable pub sent : Device → Call → ℕ → List ℕ
 sent d (write s) answer = []
-sent d (read header n) answer = readStream (d .unpaged) (pageOf d (d .unpaged .page)) answer (getD header 1 0)
+sent d (read header n) answer = readStream (d .unpaged) (pageShown d) answer (requestOf header) header
 sent d (measure page quantity word) answer = []
 sent d (sample n) answer = []
 sent d (alertResponse n) answer = alertStream answer

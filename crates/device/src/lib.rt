@@ -2,7 +2,7 @@
 // hands it back with the answer number. Any bytes, numbers and states are taken.
 ghost use mathlib.Core.Path.{_≡_};
 ghost use lib.ListN.{length};
-ghost use Rattle.device.specs.Device.{powerOn};
+ghost use Rattle.device.specs.Device.{usual, powerOn};
 ghost use Rattle.device.specs.Step.{write, read, measure, sample, alertResponse, tick, step};
 use page::Page;
 use unpaged::Unpaged;
@@ -26,7 +26,7 @@ pub struct Done {
 }
 
 pub fn power_on() -> Device
-    ensures { λ r. ⌜ r ≡ powerOn 8 ⌝ }
+    ensures { λ r. ⌜ r ≡ powerOn (usual 8) ⌝ }
 {
     let u = unpaged::power_on_unpaged();
     let p = page::power_on_page();
@@ -60,9 +60,11 @@ pub fn read(d: Device, header: &[u8], reply: &mut [u8]) -> Done
     let n = reply.len();
     let u = d.unpaged;
     let valid = answers::device_valid(d);
-    let rule = reads::answers::read_answer(u, header, n);
+    let p = steps::page_shown(d);
+    let request = reads::request::request_of(header);
+    let rule = reads::answers::request_answer(u, p, request, n);
     let answer = answers::answered(valid, rule);
-    let stream = steps::read_stream(d, answer, header, n);
+    let stream = reads::data::read_stream(u, p, answer, request, header);
     reads::reply::send(reply, stream);
     let next = answers::refused(d, answer);
     Done {

@@ -8,16 +8,14 @@ ghost use Rattle.laws.specs.Lists.{anyOf};
 ghost use Rattle.account.specs.Account.{sampled};
 ghost use Rattle.page.specs.Status.{any, anyStatus};
 ghost use Rattle.writes.specs.Left.{clearing};
-ghost use Rattle.reads.specs.Reply.{stream};
-ghost use Rattle.unpaged.specs.Unpaged.{validPage, withAlert, withEnergy};
-ghost use Rattle.device.specs.Device.{device};
-ghost use Rattle.device.specs.Step.{read, measure, sample, alertResponse, tick, answered, written, measured, tickedDevice, refusedDevice, left, sent, done, step};
+ghost use Rattle.unpaged.specs.Unpaged.{validPage, withAlert, withEnergy, shown};
+ghost use Rattle.device.specs.Device.{device, pageOf};
+ghost use Rattle.device.specs.Step.{measure, sample, alertResponse, tick, answered, written, measured, tickedDevice, refusedDevice, left, done, step};
 use super::Device;
 use super::answers;
 use super::pages;
 use account::Account;
 use page::Page;
-use reads::reply::Stream;
 use unpaged::Unpaged;
 use writes::Write;
 
@@ -87,16 +85,14 @@ pub fn after_write(d: Device, answer: u8, w: Write) -> Device
     answers::refused(d, answer)
 }
 
-// What a read sends with its answer: of the selected page.
-pub fn read_stream(d: Device, answer: u8, header: &[u8], n: usize) -> Stream
-    requires { ⌜ answer ≡ answered d (read (now header) n) ⌝ }
-    ensures { λ r. ⌜ r ≡ stream (sent d (read (now (header .entry)) n) answer) ⌝ }
+// The page that a read looks at; of a state that gets 15, any.
+pub fn page_shown(d: Device) -> Page
+    ensures { λ r. ⌜ (length (d .pages) ≡ 8) × (r ≡ pageOf d (shown (d .unpaged) % 8)) ⌝ }
 {
     let u = d.unpaged;
-    let k = (u.page % 8) as usize;
+    let k = (unpaged::shown(u) % 8) as usize;
     let p = d.pages[k];
-    let code = writes::bytes::byte_at(header, 1);
-    reads::data::read_stream(u, p, answer, code)
+    p
 }
 
 // An accepted measurement, on its page.

@@ -11,7 +11,7 @@ use lib.Seq.{take-suc-set, length-take-le}
 use borrow.Author.Tests.{ne-eqb, le-ltb, lt-ltb, ltb-true, ltb-false}
 use Rattle.laws.proofs.Branches.{either}
 use Rattle.device.specs.declared.Device.{Device}
-use Rattle.device.specs.Device.{powerOn}
+use Rattle.device.specs.Device.{usual, powerOn}
 use Rattle.frame.specs.Hex.{pairs}
 use Rattle.frame.specs.Text.{goodText, bytesOf}
 use Rattle.frame.specs.Gather.{countOf, wholeOf, heldIn}
@@ -103,4 +103,4 @@ feeds-lines (c ∷ s) d line n p h =
 
 pub whole : Whole
 unfolding Whole fileText
-whole line e s = feeds-lines s (powerOn 8) line 0 [] (holds-none line e)
+whole line e s = feeds-lines s (powerOn (usual 8)) line 0 [] (holds-none line e)

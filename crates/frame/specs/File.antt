@@ -7,7 +7,7 @@ use mathlib.Core.List.{List, [], _∷_, _++_}
 use lib.ListN.{length}
 use lib.Dec.{eqb}
 use Rattle.device.specs.declared.Device.{Device}
-use Rattle.device.specs.Device.{powerOn}
+use Rattle.device.specs.Device.{usual, powerOn}
 use Rattle.frame.specs.Line.{lineOutcome, textOf}
 use Rattle.frame.specs.Blocks.{Fed, after, feed}
 
@@ -23,7 +23,7 @@ linesText d (l ∷ ls) = textOf (lineOutcome d l) ++ linesText (lineOutcome d l 
 
 -- what comes out for a file, from power-on on
 unfoldable pub fileText : List ℕ → List ℕ
-fileText s = linesText (powerOn 8) (linesFrom [] s)
+fileText s = linesText (powerOn (usual 8)) (linesFrom [] s)
 
 -- what the program writes: the text of the characters as they come, and at the end an LF for a line that has characters
 abbrev pub ended : Fed → List ℕ
@@ -31,7 +31,7 @@ ended f = cond (eqb (f .length) 0) (f .text) (f .text ++ feed (f .device) (f .li
 
 -- Fed character by character through a line buffer of 512, a file gives its text,
 unfoldable pub Whole : Type 0
-Whole = (line : List ℕ) → length line ≡ 512 → (s : List ℕ) → ended (feed (powerOn 8) line 0 s) ≡ fileText s
+Whole = (line : List ℕ) → length line ≡ 512 → (s : List ℕ) → ended (feed (powerOn (usual 8)) line 0 s) ≡ fileText s
 
 -- and where it is cut into blocks does not matter.
 unfoldable pub Cut : Type 0

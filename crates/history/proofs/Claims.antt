@@ -1,5 +1,6 @@
 -- The whole of specs/Claims.antt.
 -- Assumes nothing.
+use Rattle.device.proofs.Touches.{pages-stay}
 use Rattle.history.specs.Claims.{Claims}
 use Rattle.history.proofs.Accepted.{accepted}
 use Rattle.history.proofs.Alert.{alert-rises, alert-cleared, alert-answered}
@@ -8,7 +9,6 @@ use Rattle.history.proofs.Effects.{effects}
 use Rattle.history.proofs.Energy.{totals-trusted}
 use Rattle.history.proofs.Latching.{latched, latches, falls}
 use Rattle.history.proofs.Outcomes.{refused-call, takes-effect}
-use Rattle.history.proofs.PageAfter.{pages-stay}
 use Rattle.history.proofs.ReadBack.{stored-codes, written-back, write-then-read, measured-back}
 use Rattle.history.proofs.Refusals.{unchanged}
 use Rattle.history.proofs.Retry.{tick-quiet, stays-down, lets-on-again, lets-on-by-ticks}

@@ -1,7 +1,7 @@
 -- The energy claim: energy's invariant holds of the device's account and the log after every call.
 -- Assumes nothing.
 use Prim.Native.Nat.{ℕ}
-use mathlib.Core.Path.{_≡_}
+use mathlib.Core.Path.{_≡_, ap, _∙_}
 use mathlib.Core.Bool.{true, _&&_, and-eq-true-iff}
 use mathlib.Core.List.{List, [], _∷_}
 use lib.Dec.{eqb}
@@ -13,29 +13,44 @@ use Rattle.energy.specs.Events.{Log, freshLog, logSample}
 use Rattle.energy.specs.Claim.{AtEachCopy}
 use Rattle.energy.proofs.Invariant.{Good, at-start, after-sample}
 use Rattle.energy.proofs.Claim.{after-copies}
+use Rattle.command.specs.Table.{table, entryOf, lookup}
 use Rattle.command.specs.Meaning.{commandOf, readingOf}
-use Rattle.unpaged.specs.Unpaged.{powerOnUnpaged}
+use Rattle.reads.specs.Request.{plainOf, addressedOf, requestOf}
 use Rattle.reads.specs.Answers.{answersData}
-use Rattle.reads.specs.Data.{readData, checked, readStream}
+use Rattle.reads.specs.Data.{readData, requestData, checked, readStream}
 use Rattle.device.specs.declared.Device.{Device}
 use Rattle.device.specs.Device.{powerOn, deviceValid}
 use Rattle.device.specs.Step.{Call, write, read, measure, sample, alertResponse, tick, answerOf, answered, effect, sent, step}
+use Rattle.device.proofs.PowerOn.{powered}
 use Rattle.history.specs.Run.{next, answer}
 use Rattle.history.specs.Accepted.{codeOf}
 use Rattle.history.specs.Energy.{Turn, isEnergyReply, partOf, part, logPart, logAfter, CopiesOf, TrueCopies, TotalsTrusted}
 use Rattle.device.proofs.States.{answer-zero}
-use Rattle.history.proofs.Outcomes.{done-next, by-answer}
+use Rattle.history.proofs.Outcomes.{done-next, by-answer, sends-data}
 use Rattle.history.proofs.Account.{energyOf, refused-keeps, write-keeps, read-keeps, measure-keeps, alert-keeps, tick-keeps}
 
 -- ---- an energy reply is the account's
 
+-- the header of READ_EIN
+abbrev einHeader : List ℕ
+einHeader = 0xC0 ∷ 0x86 ∷ 0xC1 ∷ []
+
+of-ein : (d : Device) → answer d (read einHeader 8) ≡ 0 → step d (read einHeader 8) .reply ≡ energyReply (energyOf d)
+unfolding
+    step sent readStream answersData checked requestOf addressedOf plainOf requestData lookup table entryOf commandOf readingOf readData energyReply
+    einBytes
+of-ein d z = rw z
+
 module _ (d : Device) (header : List ℕ) (n : ℕ) where
   the-reply : isEnergyReply header n (step d (read header n)) ≡ true → step d (read header n) .reply ≡ energyReply (energyOf d)
-  unfolding step sent readStream answersData checked commandOf readingOf readData energyReply einBytes
+  unfolding answersData
   the-reply e =
       let a = and-eq-true-iff (eqb (codeOf header) 0x86 && eqb n 8) (eqb (answer d (read header n)) 0) .0 e in
       let b = and-eq-true-iff (eqb (codeOf header) 0x86) (eqb n 8) .0 (a .0) in
-      rw (eqb-true (answered d (read header n)) 0 (a .1), eqb-true (codeOf header) 0x86 (b .0), eqb-true n 8 (b .1))
+      let z = eqb-true (answer d (read header n)) 0 (a .1) in
+      let ein : header ≡ einHeader = sends-data d header n (ap answersData z) .spelled ∙ rw (eqb-true (codeOf header) 0x86 (b .0)) in
+      let eight = eqb-true n 8 (b .1) in
+      rw (ein, eight) (of-ein d (rw (ein, eight) at z))
 
 -- ---- a call
 
@@ -81,5 +96,5 @@ after-calls d l (t ∷ ts) g m =
     after-calls (next d (t .call)) (logPart l (t .copies) (part d t)) ts (after-call d l g (t .call) (t .copies) (m .0)) (m .1)
 
 pub totals-trusted : TotalsTrusted
-unfolding TotalsTrusted powerOn powerOnUnpaged
-totals-trusted n ts m = after-calls (powerOn n) freshLog ts at-start m
+unfolding TotalsTrusted
+totals-trusted x ts m = after-calls (powerOn x) freshLog ts (rw (powered x .energy) at-start) m

@@ -17,26 +17,16 @@ use Rattle.command.specs.Meaning.{commandOf, settingOf, faultOf, readingOf}
 use Rattle.command.specs.Causes.{CausesAgree}
 use Rattle.command.proofs.Causes.{causes-agree}
 use Rattle.page.specs.declared.Page.{Page}
-use Rattle.page.specs.Page.{powerOnPage}
 use Rattle.page.specs.Causes.{moved, settled, ticked}
 use Rattle.page.specs.Settings.{setMeasurement, setOperation, setVoutCommand, setLimit, setResponse, clearBits}
 use Rattle.page.specs.Status.{reading}
+use Rattle.page.proofs.Chosen.{Sized}
 use Rattle.writes.specs.declared.asked.Setting.{Setting}
 use Rattle.writes.specs.declared.asked.Write.{Write}
 use Rattle.writes.specs.Asked.{clearFaults, writeOf, clearStatus}
 use Rattle.writes.specs.Left.{applied, changed, cleared, pageLeft}
 
 -- ---- lengths
-
-pub record Sized (p : Page) : Type 0 where
-  pub limits : length (p .limits) ≡ 11
-  pub responses : length (p .responses) ≡ 6
-  pub words : length (p .words) ≡ 4
-  pub measured : length (p .measured) ≡ 4
-
-pub powered-sized : Sized powerOnPage
-unfolding powerOnPage causes warnings
-powered-sized = record { limits = refl; responses = refl; words = refl; measured = refl }
 
 module _ (p : Page) (z : Sized p) where
   applied-sized : (s : Setting) → Sized (applied s p)

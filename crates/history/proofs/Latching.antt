@@ -23,9 +23,9 @@ use Rattle.history.proofs.Runs.{current}
 
 pub latched : Latched
 unfolding Latched
-latched n cs i m hi hm e =
-    let p = pageOf (reached n cs) i in
-    current n cs .page i hi .latched (registerOf m) (bitOf m) (register-lt m hm) (cause-bit p m hm e)
+latched x cs i m hi hm e =
+    let p = pageOf (reached x cs) i in
+    current x cs .page i hi .latched (registerOf m) (bitOf m) (register-lt m hm) (cause-bit p m hm e)
 
 module _ (p r : Page) (clear : ℕ → ℕ → Bool) (off : Bool) (rest : ℕ → Bool) (time : Bool) (j k : ℕ) (h : j < 4) where
   -- the bit of a page that was changed and brought up to date
@@ -58,9 +58,9 @@ module _ (p r : Page) (clear : ℕ → ℕ → Bool) (off : Bool) (rest : ℕ �
 
 pub latches : Latches
 unfolding Latches
-latches n cs c i j k hi hj =
-    let d = reached n cs in
-    let g = current n cs in
+latches x cs c i j k hi hj =
+    let d = reached x cs in
+    let g = current x cs in
     left-bit (pageOf d i) (pageOf (next d c) i) (clears d c i) (untrips d c i) (rests d c i) (timeOf d c) j k hj (page-after d i (rw (g .whole) hi) c) (g .page i hi)
 
 pub falls : Falls

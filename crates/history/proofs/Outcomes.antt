@@ -1,32 +1,38 @@
 -- What a call leaves, by its answer, and the parts of what an accepted write and a measurement leave.
 -- Assumes nothing.
 use Prim.Native.Nat.{ℕ, _<_}
-use mathlib.Core.Path.{_≡_, refl, sym, ap, _∙_}
-use mathlib.Core.Bool.{true, false, _||_}
+use mathlib.Core.Path.{_≡_, sym, ap, _∙_}
+use mathlib.Core.Bool.{true, false, false≢true}
 use mathlib.Core.List.{List}
 use lib.Dec.{eqb}
 use lib.ListN.{length}
 use borrow.Author.Tests.{eqb-true, eqb-false, eq-eqb, ne-eqb}
-use Rattle.laws.specs.Lists.{mapAt}
 use Rattle.laws.proofs.Branches.{either}
 use Rattle.laws.proofs.Places.{map-at}
-use Rattle.laws.proofs.Sweeps.{map-every}
 use Rattle.page.specs.Page.{noPage}
-use Rattle.page.specs.Causes.{settled, ticked}
-use Rattle.page.specs.Settings.{setMeasurement}
-use Rattle.unpaged.specs.Unpaged.{actsOn, unpagedValid}
+use Rattle.page.specs.Causes.{ticked}
+use Rattle.unpaged.specs.Unpaged.{unpagedValid}
 use Rattle.writes.specs.declared.asked.Write.{Write}
 use Rattle.writes.specs.Asked.{asked}
-use Rattle.writes.specs.Left.{pageLeft, unpagedLeft, clearing}
+use Rattle.writes.specs.Left.{unpagedLeft, clearing}
 use Rattle.writes.proofs.Kept.{energy-kept}
+use Rattle.reads.specs.Answers.{answersData}
+use Rattle.reads.proofs.Requests.{Sends, sends}
 use Rattle.device.specs.declared.Device.{Device}
-use Rattle.device.specs.Device.{deviceValid, pageOf, turned, alertRisen, alertStanding}
-use Rattle.device.specs.Step.{Call, write, tick, answerOf, answered, effect, refusedDevice, left, step, written, writtenTo, measured, tickedDevice}
+use Rattle.device.specs.Device.{deviceValid, pageOf, pageShown, alertRisen, alertStanding}
+use Rattle.device.specs.Step.{Call, write, read, tick, answerOf, answered, effect, refusedDevice, left, step, written, writtenTo}
 use Rattle.device.proofs.States.{answered-of}
+use Rattle.device.proofs.Touches.{ticked-pages}
 use Rattle.history.specs.Run.{next, answer}
 use Rattle.history.specs.Refusals.{Refused}
 use Rattle.history.specs.Accepted.{Acceptable, TakesEffect}
 use Rattle.history.proofs.Accepted.{acceptable, accepting}
+
+-- a read that sends data has a header C0h, code, C1h
+pub sends-data : (d : Device) (header : List ℕ) (n : ℕ) → answersData (answer d (read header n)) ≡ true → Sends header
+unfolding step answered answerOf answersData
+sends-data d header n y =
+    either (deviceValid d) (λ v. sends (d .unpaged) (pageShown d) header n (rw v at y)) (λ v. absurd (false≢true (rw v at y)))
 
 module _ (d : Device) (c : Call) where
   pub done-next : answer d c ≡ 0 → next d c ≡ effect d c
@@ -48,10 +54,6 @@ refused-call d c h = refused-next d c h
 -- ---- writes
 
 module _ (d : Device) (w : Write) where
-  pub written-pages : written d w .pages ≡ mapAt (actsOn (d .unpaged)) (pageLeft w) (d .pages)
-  unfolding written alertStanding alertRisen
-  written-pages = either (clearing w) (λ e. rw e) (λ e. rw e)
-
   pub written-cml : written d w .unpaged .cml ≡ unpagedLeft w (d .unpaged) .cml
   unfolding written alertStanding alertRisen
   written-cml = either (clearing w) (λ e. rw e) (λ e. rw e)
@@ -94,18 +96,7 @@ pub takes-effect : TakesEffect
 unfolding TakesEffect
 takes-effect d s v = ((takes-effect-of d s v, accepted-of d s v), λ a. write-next d s (accepted-of d s v a))
 
--- ---- measurements
-
-pub measured-pages : (d : Device) (page quantity word : ℕ)
-    → measured d page quantity word .pages ≡ mapAt (eqb page) (λ p. settled (setMeasurement p quantity word)) (d .pages)
-unfolding measured alertRisen
-measured-pages d page quantity word = refl
-
 -- ---- ticks
-
-pub ticked-pages : (d : Device) → tickedDevice d .pages ≡ mapAt (λ i. true) ticked (d .pages)
-unfolding tickedDevice
-ticked-pages d = sym (map-every (λ i. true) ticked (d .pages) (λ i. refl))
 
 pub ticked-page-at : (d : Device) → answer d tick ≡ 0 → (i : ℕ) → i < length (d .pages) → pageOf (next d tick) i ≡ ticked (pageOf d i)
 unfolding effect

@@ -2,15 +2,13 @@
 -- Assumes nothing.
 use Prim.Native.Nat.{ℕ, _<_}
 use mathlib.Core.Path.{_≡_, refl, sym, ap, _∙_}
-use mathlib.Core.Bool.{Bool, true, false, cond, _&&_, and-false, and-true, false≢true}
+use mathlib.Core.Bool.{Bool, false, cond, and-false, and-true}
 use mathlib.Core.List.{List}
-use lib.Dec.{eqb, ltb}
+use lib.Dec.{eqb}
 use lib.ListN.{length, getD}
-use borrow.Author.Tests.{eq-eqb, ne-eqb, ltb-true, ltb-false}
-use Rattle.laws.specs.Lists.{mapAt}
+use borrow.Author.Tests.{eq-eqb, ne-eqb}
 use Rattle.laws.proofs.Branches.{either}
-use Rattle.laws.proofs.Places.{map-at, map-kept, map-past}
-use Rattle.command.specs.Meaning.{commandOf}
+use Rattle.laws.proofs.Places.{map-at}
 use Rattle.page.specs.declared.Page.{Page}
 use Rattle.page.specs.Page.{noPage}
 use Rattle.page.specs.Causes.{settled}
@@ -21,15 +19,15 @@ use Rattle.writes.specs.Left.{pageLeft}
 use Rattle.device.specs.declared.Device.{Device}
 use Rattle.device.specs.Device.{pageOf}
 use Rattle.device.specs.Step.{Call, write, read, measure, sample, alertResponse, tick, effect, refusedDevice}
+use Rattle.device.proofs.Touches.{written-pages, measured-pages}
 use Rattle.history.specs.Run.{next, answer}
 use Rattle.history.specs.Clearing.{acceptedWrite, clearsPage, clears}
-use Rattle.history.specs.Pages.{touches, PagesStay}
 use Rattle.history.specs.Tripping.{untripping, untrips}
 use Rattle.history.specs.Retry.{resting, rests}
 use Rattle.history.specs.Accepted.{codeOf}
 use Rattle.history.proofs.Codes.{cleared-code, untripping-code, rests-code}
 use Rattle.history.proofs.PageLeft.{PageLeft, kept, timed, Nothing, nothing, same-left, written-page, measured-page}
-use Rattle.history.proofs.Outcomes.{done-next, refused-next, by-answer, write-next, written-pages, measured-pages, ticked-page-at}
+use Rattle.history.proofs.Outcomes.{done-next, refused-next, by-answer, write-next, ticked-page-at}
 
 -- ---- which calls clear and untrip
 
@@ -134,23 +132,3 @@ module _ (d : Device) (i : ℕ) (small : i < length (d .pages)) where
 
   pub page-after : (c : Call) → LeftAt d c i
   page-after c = by-answer d c (answered-left c) (refused-left d c i)
-
--- ---- the pages that a call leaves alone
-
-pages-stay-done : (d : Device) (c : Call) (i : ℕ) → touches d c i ≡ false → answer d c ≡ 0 → pageOf (next d c) i ≡ pageOf d i
-unfolding touches effect
-pages-stay-done d (write s) i h z =
-    ap (λ (e : Device). pageOf e i) (write-next d s z)
-    ∙ rw (written-pages d (asked s)) (map-kept noPage (actsOn (d .unpaged)) (pageLeft (asked s)) (d .pages) i h)
-pages-stay-done d (read header n) i h z = ap (λ (e : Device). pageOf e i) (done-next d (read header n) z)
-pages-stay-done d (measure page quantity word) i h z =
-    ap (λ (e : Device). pageOf e i) (done-next d (measure page quantity word) z)
-    ∙ rw (measured-pages d page quantity word) (map-kept noPage (eqb page) (λ p. settled (setMeasurement p quantity word)) (d .pages) i h)
-pages-stay-done d (sample n) i h z = ap (λ (e : Device). pageOf e i) (done-next d (sample n) z)
-pages-stay-done d (alertResponse n) i h z = ap (λ (e : Device). pageOf e i) (done-next d (alertResponse n) z)
-pages-stay-done d tick i h z = absurd (false≢true (sym h))
-
-pub pages-stay : PagesStay
-unfolding PagesStay refusedDevice
-pages-stay d c i h =
-    by-answer d c (pages-stay-done d c i h) (λ r. ap (λ (e : Device). pageOf e i) (refused-next d c r))

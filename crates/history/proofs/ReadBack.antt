@@ -4,40 +4,41 @@ use Prim.Native.Nat.{ℕ, zero, suc, _<_, _+_}
 use mathlib.Core.Path.{_≡_, refl, sym, ap, _∙_}
 use mathlib.Core.Bool.{Bool, true, false, cond, not, _&&_, _||_, and-false, or-true, and-eq-true-iff, false≢true}
 use mathlib.Core.List.{List, [], _∷_, map}
-use native.Mathlib.Nat.{not-suc-le-zero, le-of-suc-le-suc}
 use native.Mathlib.Omega.{arith}
 use lib.Dec.{eqb, ltb, leb, ltb→lt}
-use lib.ListN.{length, getD, replicate}
+use lib.ListN.{length, getD}
 use borrow.Author.Tests.{eqb-true, eq-eqb, ne-eqb, le-ltb, ltb-true}
 use Rattle.laws.specs.Lists.{Bytes, anyOf}
 use Rattle.laws.proofs.Branches.{either}
-use Rattle.laws.proofs.Every.{each, agree, agree-test}
+use Rattle.laws.proofs.Every.{each, agree-test}
 use Rattle.cause.specs.Causes.{readCodes}
 use Rattle.command.specs.declared.meaning.Command.the-variants.{Reading}
 use Rattle.command.specs.Table.{table, entryOf, lookup}
 use Rattle.command.specs.Meaning.{commandOf, readingOf}
 use Rattle.command.specs.Paged.{paged}
 use Rattle.page.specs.declared.Page.{Page}
-use Rattle.page.specs.Page.{powerOnPage, noPage}
+use Rattle.page.specs.Choice.{usualPage, chosenPage}
 use Rattle.page.specs.Status.{reading}
+use Rattle.page.proofs.Chosen.{chosen-reading}
 use Rattle.unpaged.specs.declared.Unpaged.{Unpaged}
-use Rattle.unpaged.specs.Unpaged.{everyPage, actsOn, powerOnUnpaged}
-use Rattle.reads.specs.Answers.{readAnswer, headerAnswer, entryAnswer}
+use Rattle.unpaged.specs.Unpaged.{everyPage, actsOn, shown, powerOnUnpaged}
+use Rattle.reads.specs.Request.{plainOf, addressedOf, requestOf}
+use Rattle.reads.specs.Answers.{dataAnswer, requestAnswer, readAnswer}
 use Rattle.reads.specs.Data.{wordBytes, readData}
 use Rattle.reads.specs.Replies.{RepliesFollow}
 use Rattle.reads.proofs.Replies.{replies-follow}
 use Rattle.device.specs.declared.Device.{Device}
-use Rattle.device.specs.Device.{supported, powerOn, deviceValid, pageOf}
+use Rattle.device.specs.Device.{Choice, numberOf, choiceAt, supported, powerOn, deviceValid, pageOf, pageShown}
 use Rattle.device.specs.Step.{Call, write, read, answerOf, sent, step}
 use Rattle.device.proofs.States.{answered-of}
+use Rattle.device.proofs.PowerOn.{powered, powered-sized, granted-number}
 use Rattle.history.specs.Run.{next, answer, run, reached}
-use Rattle.history.specs.Valid.{ReachedWhole, ReachedValid}
+use Rattle.history.specs.Valid.{ReachedValid}
 use Rattle.history.specs.Accepted.{codeOf}
-use Rattle.history.specs.ReadBack.{latest, OnBus, AllOnBus, Reads, stored, storedAt, StoredCodes, isUnpaged, stores, writtenData, WrittenBack, WriteThenRead, measures, measuredWord, MeasuredBack}
-use Rattle.history.proofs.Runs.{kept-in-runs, same-length, reached-whole}
+use Rattle.history.specs.ReadBack.{latest, OnBus, AllOnBus, Reads, stored, storedAt, startsAs, StoredCodes, isUnpaged, stores, writtenData, WrittenBack, WriteThenRead, measures, measuredWord, MeasuredBack}
+use Rattle.history.proofs.Runs.{kept-in-runs, same-length}
 use Rattle.history.proofs.Valid.{valid-after, reached-valid}
 use Rattle.history.proofs.Effects.{page-after-write}
-use Rattle.history.proofs.Fields.{powered-sized}
 use Rattle.history.proofs.Stored.{PageField, DeviceField, Field, onPage, onDevice, Row, each-at, rows}
 use Rattle.history.proofs.StoredSteps.{AllSized, sized-after, page-steps, reading-steps, device-steps}
 
@@ -54,12 +55,19 @@ open-for u code i n ok small h =
     let few = ltb-true n 97 (and-eq-true-iff (ltb 0 n) (ltb n 97) .0 ok .1) in
     rw (ne-eqb (u .page) 0xFF (λ e. omega arith)))
 
+-- and it is the page shown
+shows : (u : Unpaged) (i n : ℕ) → supported n ≡ true → i < n → u .page ≡ i → shown u ≡ i
+unfolding supported shown
+shows u i n ok small there =
+    let few = ltb-true n 97 (and-eq-true-iff (ltb 0 n) (ltb n 97) .0 ok .1) in
+    rw (ne-eqb (u .page) 0xFF (λ e. omega arith)) there
+
 module _ (d : Device) (v : deviceValid d ≡ true) (code : ℕ) (small : code < 256) (readable : lookup code .read ≡ true) (one : (everyPage (d .unpaged) && paged code) ≡ false) where
   abbrev c : Call
   c = read (0xC0 ∷ code ∷ 0xC1 ∷ []) (lookup code .length)
 
-  answers : readAnswer (d .unpaged) (0xC0 ∷ code ∷ 0xC1 ∷ []) (lookup code .length) ≡ 0
-  unfolding readAnswer headerAnswer entryAnswer
+  answers : readAnswer (d .unpaged) (pageShown d) (0xC0 ∷ code ∷ 0xC1 ∷ []) (lookup code .length) ≡ 0
+  unfolding readAnswer requestOf addressedOf plainOf requestAnswer dataAnswer
   answers =
       let k = lookup code .length in
       rw (readable, one, le-ltb k k (omega arith), le-ltb (k + 1) k (omega arith))
@@ -68,14 +76,14 @@ module _ (d : Device) (v : deviceValid d ≡ true) (code : ℕ) (small : code < 
   unfolding step answerOf
   read-answer = answered-of d c v ∙ answers
 
-  read-reply : step d c .reply ≡ readData (d .unpaged) (pageOf d (d .unpaged .page)) (commandOf code)
+  read-reply : step d c .reply ≡ readData (d .unpaged) (pageShown d) (commandOf code)
   unfolding step answerOf sent RepliesFollow Bytes
   read-reply =
       rw (answered-of d c v)
-      (replies-follow (d .unpaged) (pageOf d (d .unpaged .page)) (0xC0 ∷ code ∷ 0xC1 ∷ []) (lookup code .length)
+      (replies-follow (d .unpaged) (pageShown d) (0xC0 ∷ code ∷ 0xC1 ∷ []) (lookup code .length)
       (omega arith, (small, (omega arith, tt))) .plain answers refl)
 
-  reads-data : (bytes : List ℕ) → readData (d .unpaged) (pageOf d (d .unpaged .page)) (commandOf code) ≡ bytes → Reads d code bytes
+  reads-data : (bytes : List ℕ) → readData (d .unpaged) (pageShown d) (commandOf code) ≡ bytes → Reads d code bytes
   reads-data bytes e = record { accepted = read-answer; reply = read-reply ∙ e }
 
 -- ---- runs
@@ -104,45 +112,38 @@ record Kept (n : ℕ) (d : Device) : Type 0 where
 kept-after : (n : ℕ) (d : Device) (c : Call) → Kept n d → Kept n (next d c)
 kept-after n d c k = record { whole = same-length d c ∙ k .whole; sized = sized-after d c (k .sized) }
 
-powered-page : (n i : ℕ) → i < n → getD (replicate n powerOnPage) i noPage ≡ powerOnPage
-powered-page zero i h = absurd (not-suc-le-zero h)
-powered-page (suc n) zero h = refl
-powered-page (suc n) (suc i) h = powered-page n i (le-of-suc-le-suc h)
+powered-kept : (x : Choice) → Kept (numberOf x) (powerOn x)
+powered-kept x =
+    let w = powered x .whole in
+    record { whole = w; sized = record { at = λ i h. powered-sized x i (rw w at h) } }
 
-powered-at : (n i : ℕ) → i < n → pageOf (powerOn n) i ≡ powerOnPage
-unfolding powerOn
-powered-at n i h = powered-page n i h
+module _ (x : Choice) (cs : List Call) (i : ℕ) (small : i < numberOf x) where
+  abbrev n : ℕ
+  n = numberOf x
 
-powered-kept : (n : ℕ) → Kept n (powerOn n)
-unfolding ReachedWhole run
-powered-kept n =
-    let w = reached-whole n [] in
-    record { whole = w; sized = record { at = λ i h. rw (powered-at n i (rw w at h)) powered-sized } }
-
-module _ (n : ℕ) (cs : List Call) (i : ℕ) (small : i < n) where
   abbrev d : Device
-  d = reached n cs
+  d = reached x cs
 
   stored-page : (code : ℕ) (f : PageField code) → AllOnBus cs
-      → f .get (pageOf d i) ≡ latest (stores i code) writtenData (powerOn n) cs (f .get powerOnPage)
+      → f .get (pageOf d i) ≡ latest (stores i code) writtenData (powerOn x) cs (f .get (chosenPage (choiceAt x i)))
   stored-page code f b =
       on-bus-latest (stores i code) writtenData (λ (e : Device). f .get (pageOf e i)) (Kept n) (kept-after n)
-      (λ e c k o. page-steps e (k .sized) i (rw (k .whole) small) code f c o) (powerOn n) cs (powered-kept n) b
-      ∙ ap (λ (p : Page). latest (stores i code) writtenData (powerOn n) cs (f .get p)) (powered-at n i small)
+      (λ e c k o. page-steps e (k .sized) i (rw (k .whole) small) code f c o) (powerOn x) cs (powered-kept x) b
+      ∙ ap (λ (p : Page). latest (stores i code) writtenData (powerOn x) cs (f .get p)) (powered x .page i small)
 
   stored-device : (code : ℕ) (f : DeviceField code)
       → f .get (d .unpaged .page) (d .unpaged .protect)
-      ≡ latest (stores i code) writtenData (powerOn n) cs (f .get (powerOnUnpaged .page) (powerOnUnpaged .protect))
-  unfolding powerOn
+      ≡ latest (stores i code) writtenData (powerOn x) cs (f .get 0 0)
   stored-device code f =
       all-latest (stores i code) writtenData (λ (e : Device). f .get (e .unpaged .page) (e .unpaged .protect)) (λ e. Unit) (λ e c k. tt)
-      (λ e c k. device-steps e i code f c) (powerOn n) cs tt
+      (λ e c k. device-steps e i code f c) (powerOn x) cs tt
+      ∙ rw (powered x .selected, powered x .protect)
 
-  measured-word : (q : ℕ) → q < 4 → reading (pageOf d i) q ≡ latest (measures i q) measuredWord (powerOn n) cs (reading powerOnPage q)
+  measured-word : (q : ℕ) → q < 4 → reading (pageOf d i) q ≡ latest (measures i q) measuredWord (powerOn x) cs 0
   measured-word q few =
       all-latest (measures i q) measuredWord (λ (e : Device). reading (pageOf e i) q) (Kept n) (kept-after n)
-      (λ e c k. reading-steps e (k .sized) i (rw (k .whole) small) q few c) (powerOn n) cs (powered-kept n)
-      ∙ ap (λ (p : Page). latest (measures i q) measuredWord (powerOn n) cs (reading p q)) (powered-at n i small)
+      (λ e c k. reading-steps e (k .sized) i (rw (k .whole) small) q few c) (powerOn x) cs (powered-kept x)
+      ∙ ap (latest (measures i q) measuredWord (powerOn x) cs) (ap (λ (p : Page). reading p q) (powered x .page i small) ∙ chosen-reading (choiceAt x i) q few)
 
 -- ---- the claims
 
@@ -159,32 +160,37 @@ module _ (m : ℕ) (h : m < length stored) where
   unfolding lookup table entryOf
   stored-read = agree-test (λ m. lookup (storedAt m .0) .read) (λ m. true) 21 tt m h
 
-module _ (n : ℕ) (cs : List Call) (i : ℕ) (b : AllOnBus cs) (small : i < n) (code : ℕ) (start : List ℕ) where
+module _ (x : Choice) (cs : List Call) (i : ℕ) (b : AllOnBus cs) (ok : supported (numberOf x) ≡ true) (small : i < numberOf x) (code : ℕ) (start : List ℕ) where
   abbrev after : Device
-  after = reached n cs
+  after = reached x cs
+
+  abbrev at-start : Page
+  at-start = chosenPage (choiceAt x i)
 
   abbrev due : List ℕ
-  due = latest (stores i code) writtenData (powerOn n) cs start
+  due = latest (stores i code) writtenData (powerOn x) cs start
 
-  reads-field : Field code → readData powerOnUnpaged powerOnPage (commandOf code) ≡ start → (isUnpaged code || eqb (after .unpaged .page) i) ≡ true
-      → readData (after .unpaged) (pageOf after (after .unpaged .page)) (commandOf code) ≡ due
+  reads-field : Field code → readData powerOnUnpaged at-start (commandOf code) ≡ start → (isUnpaged code || eqb (after .unpaged .page) i) ≡ true
+      → readData (after .unpaged) (pageShown after) (commandOf code) ≡ due
+  unfolding powerOnUnpaged
   reads-field (onPage f) e selected =
       let there : after .unpaged .page ≡ i = eqb-true (after .unpaged .page) i (rw (f .paged) at selected) in
-      f .shown (after .unpaged) (pageOf after (after .unpaged .page))
-      ∙ ap (λ (j : ℕ). f .get (pageOf after j)) there ∙ stored-page n cs i small code f b
-      ∙ ap (latest (stores i code) writtenData (powerOn n) cs) (sym (f .shown powerOnUnpaged powerOnPage) ∙ e)
+      f .shown (after .unpaged) (pageShown after)
+      ∙ ap (λ (j : ℕ). f .get (pageOf after j)) (shows (after .unpaged) i (numberOf x) ok small there) ∙ stored-page x cs i small code f b
+      ∙ ap (latest (stores i code) writtenData (powerOn x) cs) (sym (f .shown powerOnUnpaged at-start) ∙ e)
   reads-field (onDevice f) e selected =
-      f .shown (after .unpaged) (pageOf after (after .unpaged .page)) ∙ stored-device n cs i small code f
-      ∙ ap (latest (stores i code) writtenData (powerOn n) cs) (sym (f .shown powerOnUnpaged powerOnPage) ∙ e)
+      f .shown (after .unpaged) (pageShown after) ∙ stored-device x cs i small code f
+      ∙ ap (latest (stores i code) writtenData (powerOn x) cs) (sym (f .shown powerOnUnpaged at-start) ∙ e)
 
 pub written-back : WrittenBack
 unfolding WrittenBack ReachedValid
-written-back n cs i m ok b small h selected =
-    let r = each-at Row (0x00, []) stored rows m h in
-    reads-data (reached n cs) (reached-valid n cs ok) (storedAt m .0) (stored-byte m h) (stored-read m h)
-    (open-for (reached n cs .unpaged) (storedAt m .0) i n ok small selected)
-    (latest (stores i (storedAt m .0)) writtenData (powerOn n) cs (storedAt m .1))
-    (reads-field n cs i b small (storedAt m .0) (storedAt m .1) (r .field) (r .powered) selected)
+written-back x cs i m ok b small h selected =
+    let c = choiceAt x i in
+    let r = each-at (Row c) (0x00, []) stored (rows c) m h in
+    reads-data (reached x cs) (reached-valid x cs ok) (storedAt m .0) (stored-byte m h) (stored-read m h)
+    (open-for (reached x cs .unpaged) (storedAt m .0) i (numberOf x) (granted-number x ok) small selected)
+    (latest (stores i (storedAt m .0)) writtenData (powerOn x) cs (startsAs c (storedAt m)))
+    (reads-field x cs i b (granted-number x ok) small (storedAt m .0) (startsAs c (storedAt m)) (r .field) (r .powered) selected)
 
 -- right after a write
 module _ (d : Device) (s : List ℕ) (z : answer d (write s) ≡ 0) (code : ℕ) (same : codeOf s ≡ code) where
@@ -205,25 +211,26 @@ module _ (d : Device) (s : List ℕ) (z : answer d (write s) ≡ 0) (code : ℕ)
       either (isUnpaged code) (λ y. rw y)
       (λ n. rw n (eq-eqb (e .unpaged .page) (d .unpaged .page) (same-page n)))
 
-  reads-it : Field code → AllSized d → d .unpaged .page < length (d .pages) → Bytes s
-      → readData (e .unpaged) (pageOf e (e .unpaged .page)) (commandOf code) ≡ writtenData (write s)
-  reads-it (onPage f) g small b =
-      f .shown (e .unpaged) (pageOf e (e .unpaged .page))
-      ∙ ap (λ (j : ℕ). f .get (pageOf e j)) (same-page (f .paged))
+  reads-it : Field code → AllSized d → supported (length (d .pages)) ≡ true → d .unpaged .page < length (d .pages) → Bytes s
+      → readData (e .unpaged) (pageShown e) (commandOf code) ≡ writtenData (write s)
+  reads-it (onPage f) g ok small b =
+      f .shown (e .unpaged) (pageShown e)
+      ∙ ap (λ (j : ℕ). f .get (pageOf e j)) (shows (e .unpaged) (d .unpaged .page) (length (d .pages)) ok small (same-page (f .paged)))
       ∙ page-steps d g (d .unpaged .page) small code f (write s) b ∙ rw stores-it
-  reads-it (onDevice f) g small b =
-      f .shown (e .unpaged) (pageOf e (e .unpaged .page)) ∙ device-steps d (d .unpaged .page) code f (write s) ∙ rw stores-it
+  reads-it (onDevice f) g ok small b =
+      f .shown (e .unpaged) (pageShown e) ∙ device-steps d (d .unpaged .page) code f (write s) ∙ rw stores-it
 
 pub write-then-read : WriteThenRead
 unfolding WriteThenRead ReachedValid
-write-then-read n cs s m ok b h same small z =
-    let d = reached n cs in
-    let k = kept-in-runs (Kept n) (kept-after n) (powerOn n) cs (powered-kept n) in
+write-then-read x cs s m ok b h same small z =
+    let n = numberOf x in
+    let d = reached x cs in
+    let k = kept-in-runs (Kept n) (kept-after n) (powerOn x) cs (powered-kept x) in
     rw same
-    (reads-data (next d (write s)) (valid-after d (write s) (reached-valid n cs ok)) (storedAt m .0) (stored-byte m h) (stored-read m h)
-    (open-for (next d (write s) .unpaged) (storedAt m .0) (d .unpaged .page) n ok small (selected-still d s z (storedAt m .0) same))
+    (reads-data (next d (write s)) (valid-after d (write s) (reached-valid x cs ok)) (storedAt m .0) (stored-byte m h) (stored-read m h)
+    (open-for (next d (write s) .unpaged) (storedAt m .0) (d .unpaged .page) n (granted-number x ok) small (selected-still d s z (storedAt m .0) same))
     (writtenData (write s))
-    (reads-it d s z (storedAt m .0) same (each-at Row (0x00, []) stored rows m h .field) (k .sized) (rw (k .whole) small) b))
+    (reads-it d s z (storedAt m .0) same (each-at (Row usualPage) (0x00, []) stored (rows usualPage) m h .field) (k .sized) (rw (k .whole) (granted-number x ok)) (rw (k .whole) small) b))
 
 read-means : (q : ℕ) → q < 4 → commandOf (getD readCodes q 0) ≡ Reading q
 unfolding commandOf readingOf
@@ -245,17 +252,13 @@ module _ (q : ℕ) (few : q < 4) where
   unfolding readData
   read-data u p = rw (read-means q few)
 
-  powered-zero : reading powerOnPage q ≡ 0
-  unfolding reading powerOnPage
-  powered-zero = agree (λ q. reading powerOnPage q) (λ q. 0) 4 tt q few
-
 pub measured-back : MeasuredBack
 unfolding MeasuredBack ReachedValid
-measured-back n cs i q ok small few selected =
-    let d = reached n cs in
-    reads-data d (reached-valid n cs ok) (getD readCodes q 0) (read-byte q few) (read-read q few)
-    (open-for (d .unpaged) (getD readCodes q 0) i n ok small (rw (eq-eqb (d .unpaged .page) i selected) (or-true (isUnpaged (getD readCodes q 0)))))
-    (wordBytes (latest (measures i q) measuredWord (powerOn n) cs 0))
-    (read-data q few (d .unpaged) (pageOf d (d .unpaged .page))
-    ∙ ap (λ (j : ℕ). wordBytes (reading (pageOf d j) q)) selected
-    ∙ ap wordBytes (measured-word n cs i small q few ∙ ap (latest (measures i q) measuredWord (powerOn n) cs) (powered-zero q few)))
+measured-back x cs i q ok small few selected =
+    let d = reached x cs in
+    reads-data d (reached-valid x cs ok) (getD readCodes q 0) (read-byte q few) (read-read q few)
+    (open-for (d .unpaged) (getD readCodes q 0) i (numberOf x) (granted-number x ok) small (rw (eq-eqb (d .unpaged .page) i selected) (or-true (isUnpaged (getD readCodes q 0)))))
+    (wordBytes (latest (measures i q) measuredWord (powerOn x) cs 0))
+    (read-data q few (d .unpaged) (pageShown d)
+    ∙ ap (λ (j : ℕ). wordBytes (reading (pageOf d j) q)) (shows (d .unpaged) i (numberOf x) (granted-number x ok) small selected)
+    ∙ ap wordBytes (measured-word x cs i small q few))

@@ -24,7 +24,7 @@ use Rattle.page.specs.Causes.{presentCauses, crossed, present, moved, settled, 
 use Rattle.page.proofs.Settled.{UpToDate}
 use Rattle.unpaged.specs.Unpaged.{cmlBits}
 use Rattle.device.specs.declared.Device.{Device}
-use Rattle.device.specs.Device.{pageOf, deviceValid}
+use Rattle.device.specs.Device.{numberOf, pageOf, deviceValid}
 use Rattle.device.specs.Step.{Call, write, read, measure, sample, alertResponse, tick, answerOf, answered, step}
 use Rattle.device.proofs.States.{answered-of}
 use Rattle.device.proofs.Refused.{device-stays}
@@ -228,9 +228,10 @@ down-stays r (steps.call true c) h = absurd (false≢true (sym h))
 
 pub stays-down : StaysDown
 unfolding StaysDown ReachedValid
-stays-down n cs c i k many hi hk down n-rest =
-    let d = reached n cs in
-    let g : Good n i k hi hk d = record { current = current n cs; valid = reached-valid n cs many } in
+stays-down x cs c i k many hi hk down n-rest =
+    let n = numberOf x in
+    let d = reached x cs in
+    let g : Good n i k hi hk d = record { current = current x cs; valid = reached-valid x cs many } in
     let s = met n i k hi hk d c in
     let r = responseAt i k (next d c) in
     let m : machineOf (byteAt i k (next d c)) ≡ tripped =
@@ -240,20 +241,22 @@ stays-down n cs c i k many hi hk down n-rest =
 
 pub lets-on-again : LetsOnAgain
 unfolding LetsOnAgain ReachedValid LetsOnIn
-lets-on-again n cs c ds i k many hi hk low high first lasting =
-    let d = reached n cs in
+lets-on-again x cs c ds i k many hi hk low high first lasting =
+    let n = numberOf x in
+    let d = reached x cs in
     let e = next d c in
-    let g : Good n i k hi hk d = record { current = current n cs; valid = reached-valid n cs many } in
+    let g : Good n i k hi hk d = record { current = current x cs; valid = reached-valid x cs many } in
     rw (← same-times n i k hi hk e ds, ← same-ticks n i k hi hk e ds)
     (lets-on-in next (byteAt i k) (responseAt i k) (met n i k hi hk) (Good n i k hi hk) (within n i k hi hk) d c ds g low high
     (same-start n i k hi hk d c ∙ first) (same-lasts n i k hi hk e ds ∙ lasting))
 
 pub lets-on-by-ticks : LetsOnByTicks
 unfolding LetsOnByTicks ReachedValid LetsOnAtIn
-lets-on-by-ticks n cs c ds i k many hi hk first lasting =
-    let d = reached n cs in
+lets-on-by-ticks x cs c ds i k many hi hk first lasting =
+    let n = numberOf x in
+    let d = reached x cs in
     let e = next d c in
-    let g : Good n i k hi hk d = record { current = current n cs; valid = reached-valid n cs many } in
+    let g : Good n i k hi hk d = record { current = current x cs; valid = reached-valid x cs many } in
     rw (← same-times n i k hi hk e ds, ← same-ticks n i k hi hk e ds)
     (lets-on-at-in next (byteAt i k) (responseAt i k) (met n i k hi hk) (Good n i k hi hk) (within n i k hi hk) d c ds g
     (same-start n i k hi hk d c ∙ first) (same-lasts n i k hi hk e ds ∙ lasting))

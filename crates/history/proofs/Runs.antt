@@ -1,31 +1,31 @@
 -- What every state of a run from power-on has: its pages, each up to date with its present causes.
 -- Assumes nothing.
-use Prim.Native.Nat.{ℕ, zero, suc, _<_}
-use mathlib.Core.Path.{_≡_, refl, sym, ap, _∙_, subst}
+use Prim.Native.Nat.{ℕ, _<_}
+use mathlib.Core.Path.{_≡_, sym, ap, _∙_, subst}
 use mathlib.Core.Bool.{Bool, true}
 use mathlib.Core.List.{List, [], _∷_}
 use lib.Dec.{eqb}
-use native.Mathlib.Nat.{not-suc-le-zero, le-of-suc-le-suc}
-use lib.ListN.{length, getD, replicate, length-replicate}
+use lib.ListN.{length}
 use Rattle.laws.proofs.Places.{length-map-at}
 use Rattle.page.specs.declared.Page.{Page}
-use Rattle.page.specs.Page.{powerOnPage, noPage}
 use Rattle.page.specs.Causes.{settled, ticked}
 use Rattle.page.specs.Settings.{setMeasurement}
-use Rattle.page.proofs.Settled.{UpToDate, current-ready, settled-current, ticked-current, powered-current}
+use Rattle.page.proofs.Settled.{UpToDate, current-ready, settled-current, ticked-current}
 use Rattle.unpaged.specs.Unpaged.{actsOn}
 use Rattle.writes.specs.Asked.{asked}
 use Rattle.writes.specs.Left.{pageLeft}
 use Rattle.device.specs.declared.Device.{Device}
-use Rattle.device.specs.Device.{powerOn, pageOf}
+use Rattle.device.specs.Device.{Choice, numberOf, powerOn, pageOf}
 use Rattle.device.specs.Step.{Call, write, read, measure, sample, alertResponse, tick, effect, refusedDevice}
+use Rattle.device.proofs.PowerOn.{powered, powered-current}
+use Rattle.device.proofs.Touches.{written-pages, measured-pages, ticked-pages}
 use Rattle.history.specs.Run.{next, answer, run, reached, Whole}
 use Rattle.history.specs.Valid.{ReachedWhole}
 use Rattle.history.specs.Clearing.{clears}
 use Rattle.history.specs.Tripping.{untrips}
 use Rattle.history.specs.Retry.{rests}
 use Rattle.history.proofs.PageLeft.{PageLeft, kept, touched, timed}
-use Rattle.history.proofs.Outcomes.{done-next, refused-next, by-answer, write-next, written-pages, measured-pages, ticked-pages}
+use Rattle.history.proofs.Outcomes.{done-next, refused-next, by-answer, write-next}
 use Rattle.history.proofs.PageAfter.{timeOf, page-after}
 
 -- what each call preserves holds after every list of calls
@@ -70,21 +70,11 @@ current-after n d c g = record {
       (page-after d i (rw (g .whole) h) c) (g .page i h);
 }
 
-replicate-at : (n i : ℕ) → i < n → getD (replicate n powerOnPage) i noPage ≡ powerOnPage
-replicate-at zero i h = absurd (not-suc-le-zero h)
-replicate-at (suc n) zero h = refl
-replicate-at (suc n) (suc i) h = replicate-at n i (le-of-suc-le-suc h)
-
-powered : (n : ℕ) → Current n (powerOn n)
-unfolding powerOn
-powered n = record {
-  whole = length-replicate n powerOnPage;
-  page = λ i h. rw (replicate-at n i h) powered-current;
-}
-
-pub current : (n : ℕ) (cs : List Call) → Current n (reached n cs)
-current n cs = kept-in-runs (Current n) (current-after n) (powerOn n) cs (powered n)
+pub current : (x : Choice) (cs : List Call) → Current (numberOf x) (reached x cs)
+current x cs =
+    kept-in-runs (Current (numberOf x)) (current-after (numberOf x)) (powerOn x) cs
+    (record { whole = powered x .whole; page = powered-current x })
 
 pub reached-whole : ReachedWhole
 unfolding ReachedWhole
-reached-whole n cs = current n cs .whole
+reached-whole x cs = current x cs .whole

@@ -18,16 +18,18 @@ use Rattle.command.specs.Causes.{CausesAgree}
 use Rattle.command.proofs.Causes.{causes-agree}
 use Rattle.page.specs.declared.Page.{Page}
 use Rattle.page.specs.Page.{powerOnPage}
+use Rattle.page.specs.Choice.{PageChoice, chosenPage}
 use Rattle.page.specs.Causes.{moved, settled, ticked}
 use Rattle.page.specs.Settings.{setMeasurement}
+use Rattle.page.proofs.Chosen.{Sized}
 use Rattle.unpaged.specs.declared.Unpaged.{Unpaged}
 use Rattle.unpaged.specs.Unpaged.{powerOnUnpaged}
 use Rattle.writes.specs.Asked.{writeOf, wordOf}
 use Rattle.writes.specs.Left.{pageLeft, unpagedLeft}
 use Rattle.reads.specs.Data.{wordBytes, readData}
-use Rattle.history.specs.ReadBack.{stored, isUnpaged}
+use Rattle.history.specs.ReadBack.{stored, startsAs, isUnpaged}
 use Rattle.history.proofs.Effects.{page-code, protect-code}
-use Rattle.history.proofs.Fields.{Sized, operation-code, command-code, limit-code, response-code}
+use Rattle.history.proofs.Fields.{operation-code, command-code, limit-code, response-code}
 
 -- the data of a write of c, as a code that has one byte or a word keeps them
 byte-data : (code c x y old new : ℕ) → lookup code .length ≡ 1 → new ≡ cond (eqb c code) x old
@@ -159,9 +161,9 @@ pub data Field (code : ℕ) : Type 0 where
   onDevice : DeviceField code → Field code
 
 -- each row of the table: its field, and its data after power-on
-pub record Row (r : ℕ × List ℕ) : Type 0 where
+pub record Row (c : PageChoice) (r : ℕ × List ℕ) : Type 0 where
   pub field : Field (r .0)
-  pub powered : readData powerOnUnpaged powerOnPage (commandOf (r .0)) ≡ r .1
+  pub powered : readData powerOnUnpaged (chosenPage c) (commandOf (r .0)) ≡ startsAs c r
 
 -- P of every element of a list
 infixr 5 _also_
@@ -174,9 +176,9 @@ each-at P past [] none m h = absurd (not-suc-le-zero h)
 each-at P past (x ∷ l) (e also es) zero h = e
 each-at P past (x ∷ l) (e also es) (suc m) h = each-at P past l es m (le-of-suc-le-suc h)
 
-pub rows : Each Row stored
-unfolding causes warnings commandOf settingOf faultOf readData powerOnUnpaged powerOnPage
-rows =
+pub rows : (c : PageChoice) → Each (Row c) stored
+unfolding causes warnings commandOf settingOf faultOf readData powerOnUnpaged powerOnPage chosenPage startsAs
+rows c =
     record { field = onDevice page-field; powered = refl }
     also record { field = onPage operation-field; powered = refl }
     also record { field = onDevice protect-field; powered = refl }

@@ -13,6 +13,7 @@ use Rattle.laws.proofs.Lists.{byte-lt}
 use Rattle.page.specs.declared.Page.{Page}
 use Rattle.page.specs.Causes.{moved, ticked}
 use Rattle.page.specs.Status.{reading}
+use Rattle.page.proofs.Chosen.{Sized}
 use Rattle.unpaged.specs.declared.Unpaged.{Unpaged}
 use Rattle.unpaged.specs.Unpaged.{actsOn, refused}
 use Rattle.writes.specs.Asked.{wordOf, asked}
@@ -26,7 +27,7 @@ use Rattle.history.specs.ReadBack.{OnBus, stores, writtenData, measures,
 use Rattle.history.proofs.Outcomes.{done-next, refused-next, by-answer, write-next, ticked-page-at}
 use Rattle.history.proofs.Runs.{same-length}
 use Rattle.history.proofs.Effects.{measure-named, measured-page-at, written-page-at, written-page, written-protect, effects}
-use Rattle.history.proofs.Fields.{Sized, left-sized, measured-sized, ticked-sized, measured-reading}
+use Rattle.history.proofs.Fields.{left-sized, measured-sized, ticked-sized, measured-reading}
 use Rattle.history.proofs.Stored.{PageField, DeviceField}
 
 module _ (d : Device) where

@@ -18,8 +18,8 @@ use Rattle.history.proofs.Runs.{current}
 
 pub tripped : Tripped
 unfolding Tripped
-tripped n cs i m hi hm e r =
-    let g = current n cs .page i hi in g .tripped (cause-shuts (pageOf (reached n cs) i) g m hm e r)
+tripped x cs i m hi hm e r =
+    let g = current x cs .page i hi in g .tripped (cause-shuts (pageOf (reached x cs) i) g m hm e r)
 
 module _ (p r : Page) (clear : ℕ → ℕ → Bool) (off : Bool) (rest : ℕ → Bool) (time : Bool) where
   -- a page that is up to date stays as tripped as it is
@@ -47,7 +47,7 @@ stays-tripped d c i h =
 
 pub trips : Trips
 unfolding Trips
-trips n cs c i h =
-    let d = reached n cs in
-    let g = current n cs in
+trips x cs c i h =
+    let d = reached x cs in
+    let g = current x cs in
     left-trip (pageOf d i) (pageOf (next d c) i) (clears d c i) (untrips d c i) (rests d c i) (timeOf d c) (page-after d i (rw (g .whole) h) c) (g .page i h)

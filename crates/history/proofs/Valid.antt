@@ -1,43 +1,43 @@
 -- Answer 15 goes to states that are not valid, and a run has none.
 -- Assumes nothing.
-use Prim.Native.Nat.{ℕ, _<_}
+use Prim.Native.Nat.{ℕ}
 use mathlib.Core.Path.{_≡_, refl, sym, ap, _∙_}
-use mathlib.Core.Bool.{Bool, true, false, not, cond, _&&_, _||_, and-eq-true-iff, false≢true}
+use mathlib.Core.Bool.{Bool, true, false, not, false≢true}
 use mathlib.Core.List.{List}
 use lib.Dec.{eqb, ltb}
-use lib.ListN.{length, getD, length-replicate}
+use lib.ListN.{length, getD}
 use borrow.Author.Tests.{eq-eqb, ltb-true}
 use Rattle.laws.specs.Lists.{allOf}
 use Rattle.laws.proofs.Branches.{either, cond-same, cond-apply}
-use Rattle.laws.proofs.Lists.{all-replicate}
 use Rattle.laws.proofs.Places.{all-map-at}
-use Rattle.account.specs.declared.Account.{Account}
-use Rattle.account.specs.Account.{accountValid, sampled}
+use Rattle.account.specs.Account.{sampled}
 use Rattle.account.proofs.Laws.{sampled-valid}
-use Rattle.command.specs.Meaning.{commandOf}
 use Rattle.page.specs.declared.Page.{Page}
-use Rattle.page.specs.Page.{powerOnPage}
 use Rattle.page.specs.Causes.{settled, ticked}
 use Rattle.page.specs.Settings.{pageValid, setMeasurement}
-use Rattle.page.proofs.Setters.{operation-valid, response-valid, command-valid, limit-valid, measurement-valid, clear-valid, settled-valid, ticked-valid, powered-valid}
+use Rattle.page.proofs.Setters.{operation-valid, response-valid, command-valid, limit-valid, measurement-valid, clear-valid, settled-valid, ticked-valid}
 use Rattle.unpaged.specs.declared.Unpaged.{Unpaged}
-use Rattle.unpaged.specs.Unpaged.{powerOnUnpaged, validPage, validProtect, unpagedValid, refused, withEnergy}
+use Rattle.unpaged.specs.Unpaged.{unpagedValid, refused}
 use Rattle.unpaged.specs.Events.{measureAnswer, alertAnswer}
 use Rattle.writes.specs.declared.asked.Setting.{Setting}
 use Rattle.writes.specs.declared.asked.Write.{Write}
 use Rattle.writes.specs.Asked.{pageMasks, wordOf, asked, validSetting, validWrite}
 use Rattle.writes.specs.Answers.{dataAnswer, lengthAnswer, codeAnswer, addressedAnswer, writeAnswer}
 use Rattle.writes.specs.Left.{applied, changed, cleared, pageLeft, unpagedLeft}
-use Rattle.reads.specs.Answers.{entryAnswer, headerAnswer, readAnswer}
+use Rattle.reads.specs.Answers.{readAnswer}
+use Rattle.reads.specs.Applies.{AnswersApply}
+use Rattle.reads.proofs.Applies.{answers-apply}
 use Rattle.device.specs.declared.Device.{Device}
-use Rattle.device.specs.Device.{supported, powerOn, deviceValid, alertRisen}
+use Rattle.device.specs.Device.{powerOn, deviceValid, pageShown, alertRisen}
 use Rattle.device.specs.Step.{Call, write, read, measure, sample, alertResponse, tick, answerOf, answered, effect, refusedDevice, step, measured, tickedDevice}
-use Rattle.device.proofs.States.{Valid, valid-parts, parts-valid}
+use Rattle.device.proofs.States.{Valid, valid-parts}
+use Rattle.device.proofs.PowerOn.{powered-valid}
+use Rattle.device.proofs.Touches.{written-pages, ticked-pages}
 use Rattle.history.specs.Run.{next, answer, reached}
 use Rattle.history.specs.Accepted.{codeOf}
 use Rattle.history.specs.Valid.{Fifteen, ReachedValid, NoFifteen}
 use Rattle.history.proofs.Codes.{smallSetting, smallResponse, response-code}
-use Rattle.history.proofs.Outcomes.{done-next, refused-next, by-answer, write-next, takes-effect-of, written-pages, written-unpaged, measured-pages, ticked-pages}
+use Rattle.history.proofs.Outcomes.{done-next, refused-next, by-answer, write-next, takes-effect-of, written-unpaged}
 use Rattle.history.proofs.Runs.{kept-in-runs, same-length}
 
 -- ---- who gets 15: in a valid state no test of any kind of call comes to it
@@ -45,10 +45,14 @@ use Rattle.history.proofs.Runs.{kept-in-runs, same-length}
 abbrev is15 : ℕ → Bool
 is15 a = eqb a 15
 
+read-not-15 : (u : Unpaged) (p : Page) (header : List ℕ) (n : ℕ) → is15 (readAnswer u p header n) ≡ false
+unfolding AnswersApply
+read-not-15 u p header n = rw (answers-apply u p header n) (simp (cond-apply is15, cond-same))
+
 not-15 : (d : Device) (c : Call) → is15 (answerOf d c) ≡ false
-unfolding answerOf writeAnswer addressedAnswer codeAnswer lengthAnswer dataAnswer readAnswer headerAnswer entryAnswer measureAnswer alertAnswer sampled
+unfolding answerOf writeAnswer addressedAnswer codeAnswer lengthAnswer dataAnswer measureAnswer alertAnswer sampled
 not-15 d (write s) = simp (cond-apply is15, cond-same)
-not-15 d (read header n) = simp (cond-apply is15, cond-same)
+not-15 d (read header n) = read-not-15 (d .unpaged) (pageShown d) header n
 not-15 d (measure page quantity word) = simp (cond-apply is15, cond-same)
 not-15 d (sample n) = either (ltb n 32768) (λ e. rw (e, answerOf)) (λ e. rw (e, answerOf))
 not-15 d (alertResponse n) = simp (cond-apply is15, cond-same)
@@ -153,25 +157,12 @@ module _ (d : Device) (valid : deviceValid d ≡ true) where
 pub valid-after : (d : Device) (c : Call) → deviceValid d ≡ true → deviceValid (next d c) ≡ true
 valid-after d c v = by-answer d c (effect-valid d v c) (λ r. rw (refused-next d c r) (refused-valid d v (answer d c)))
 
-powered : (n : ℕ) → supported n ≡ true → deviceValid (powerOn n) ≡ true
-unfolding powerOn powerOnUnpaged validProtect accountValid validPage supported
-powered n h =
-    let long = length-replicate n powerOnPage in
-    parts-valid (powerOn n)
-    (record {
-      number = rw long h;
-      page = rw long (ap (λ (b : Bool). b || false) (and-eq-true-iff (ltb 0 n) (ltb n 97) .0 h .0));
-      protect = refl;
-      energy = refl;
-      pages = all-replicate pageValid n powerOnPage powered-valid;
-    })
-
 pub reached-valid : ReachedValid
 unfolding ReachedValid
-reached-valid n cs h = kept-in-runs (λ (d : Device). deviceValid d ≡ true) valid-after (powerOn n) cs (powered n h)
+reached-valid x cs h = kept-in-runs (λ (d : Device). deviceValid d ≡ true) valid-after (powerOn x) cs (powered-valid x h)
 
 pub no-fifteen : NoFifteen
 unfolding NoFifteen Fifteen ReachedValid
-no-fifteen n cs c h e =
-    let d = reached n cs in
-    false≢true (sym (fifteen d c ∙ ap not (reached-valid n cs h)) ∙ eq-eqb (answer d c) 15 e)
+no-fifteen x cs c h e =
+    let d = reached x cs in
+    false≢true (sym (fifteen d c ∙ ap not (reached-valid x cs h)) ∙ eq-eqb (answer d c) 15 e)

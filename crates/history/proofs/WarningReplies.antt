@@ -2,7 +2,7 @@
 -- Assumes nothing.
 use Prim.Native.Nat.{ℕ, _<_, _%_}
 use mathlib.Core.Path.{_≡_, refl}
-use mathlib.Core.Bool.{Bool, true, false, _||_, false≢true}
+use mathlib.Core.Bool.{Bool, true, false, cond, _||_, false≢true}
 use native.Mathlib.Omega.{arith}
 use lib.Dec.{eqb, ltb}
 use lib.ListN.{length, getD, List·getD-eq-default}
@@ -18,13 +18,16 @@ use Rattle.page.specs.declared.Page.{Page}
 use Rattle.page.specs.Page.{noPage}
 use Rattle.page.specs.Status.{reading}
 use Rattle.unpaged.specs.declared.Unpaged.{Unpaged}
-use Rattle.reads.specs.Data.{statusRegister, readData, readStream}
+use Rattle.unpaged.specs.Unpaged.{shown}
+use Rattle.reads.specs.Answers.{answersData}
+use Rattle.reads.specs.Data.{statusRegister, readData, requestData, readStream}
 use Rattle.device.specs.declared.Device.{Device}
-use Rattle.device.specs.Device.{pageOf}
+use Rattle.device.specs.Device.{pageOf, pageShown}
 use Rattle.device.specs.Step.{read, sent, step}
 use Rattle.history.specs.Run.{answer}
 use Rattle.history.specs.Warnings.{warnLimit, showsWarnings, AlikePages, Alike, AnswerAlike, ReplyAlike}
 use Rattle.history.proofs.AlikePages.{fault-limit, alike-self}
+use Rattle.history.proofs.Outcomes.{sends-data}
 use Rattle.history.proofs.Warnings.{answer-alike}
 
 -- a command whose data show no warning
@@ -84,11 +87,17 @@ page-alike d e a i =
     let number = a .number in
     rw (List·getD-eq-default (d .pages) noPage {n = i} past, List·getD-eq-default (e .pages) noPage {n = i} (omega arith)) (alike-self noPage))
 
+page-shown : (d e : Device) → Alike d e → AlikePages (pageShown d) (pageShown e)
+unfolding shown
+page-shown d e a = rw (a .page) (page-alike d e a (cond (eqb (e .unpaged .page) 0xFF) 0 (e .unpaged .page)))
+
 pub reply-alike : ReplyAlike
-unfolding ReplyAlike step sent readStream AnswerAlike
+unfolding ReplyAlike step sent readStream requestData AnswerAlike
 reply-alike d e header n a b h =
     let code = getD header 1 0 in
     let same : answer d (read header n) ≡ answer e (read header n) = answer-alike d e a (read header n) in
-    let bytes = data-alike (d .unpaged) (e .unpaged) (a .page) (a .protect) (a .cml) (a .energy) (pageOf d (d .unpaged .page)) (pageOf e (e .unpaged .page))
-    (rw (a .page) (page-alike d e a (e .unpaged .page))) (commandOf code) (plain-code code (byte-lt header b 1) h) in
-    rw (same, bytes)
+    let bytes = data-alike (d .unpaged) (e .unpaged) (a .page) (a .protect) (a .cml) (a .energy) (pageShown d) (pageShown e)
+    (page-shown d e a) (commandOf code) (plain-code code (byte-lt header b 1) h) in
+    either (answersData (answer e (read header n)))
+    (λ y. rw (same, sends-data e header n y .asks, bytes))
+    (λ no. rw (same, no))

@@ -29,17 +29,20 @@ use Rattle.writes.specs.declared.asked.Write.{Write}
 use Rattle.writes.specs.Asked.{asked, writeOf, wordOf}
 use Rattle.writes.specs.Answers.{dataAnswer, lengthAnswer, codeAnswer, addressedAnswer, writeAnswer}
 use Rattle.writes.specs.Left.{pageLeft, unpagedLeft}
-use Rattle.reads.specs.Answers.{headerAnswer, readAnswer}
+use Rattle.reads.specs.Request.{requestOf}
+use Rattle.reads.specs.Answers.{readAnswer}
+use Rattle.reads.proofs.Requests.{answer-same}
 use Rattle.device.specs.declared.Device.{Device}
-use Rattle.device.specs.Device.{deviceValid, pageOf, alertRisen, powerOn}
+use Rattle.device.specs.Device.{Choice, deviceValid, pageOf, pageShown, alertRisen, powerOn}
 use Rattle.device.specs.Step.{Call, write, read, measure, sample, alertResponse, tick, answerOf, answered, effect, refusedDevice, step, written, measured, tickedDevice}
+use Rattle.device.proofs.Touches.{written-pages, ticked-pages}
 use Rattle.history.specs.Run.{next, answer, run, reached}
 use Rattle.history.specs.Accepted.{codeOf}
 use Rattle.history.specs.Effects.{OnlyAlert}
 use Rattle.history.specs.Warnings.{warnLimit, AlikePages, Alike, AnswerAlike, StayAlike, WarnLimitsAside}
 use Rattle.history.proofs.AlikePages.{ticked-alike, measured-alike, left-alike, warn-limit-alike, alike-self, valid-alike}
 use Rattle.history.proofs.Effects.{written-page-at, written-page, written-protect}
-use Rattle.history.proofs.Outcomes.{done-next, refused-next, by-answer, write-next, written-pages, written-cml, written-energy, ticked-pages}
+use Rattle.history.proofs.Outcomes.{done-next, refused-next, by-answer, write-next, written-cml, written-energy}
 use Rattle.history.proofs.Runs.{current}
 
 -- ---- answers
@@ -66,8 +69,9 @@ module _ (d e : Device) (a : Alike d e) where
   write-answer s = rw (a .number, a .protect)
 
   read-answer : (header : List ℕ) (n : ℕ) → answerOf d (read header n) ≡ answerOf e (read header n)
-  unfolding answerOf readAnswer headerAnswer
-  read-answer header n = rw (a .page)
+  unfolding answerOf readAnswer
+  read-answer header n =
+      answer-same (d .unpaged) (e .unpaged) (pageShown d) (pageShown e) (requestOf header) n (ap (λ (x : ℕ). eqb x 0xFF) (a .page))
 
   measure-answer : (page quantity word : ℕ) → answerOf d (measure page quantity word) ≡ answerOf e (measure page quantity word)
   unfolding answerOf
@@ -283,16 +287,16 @@ limit-meant code h =
     (λ e. either (eqb code 0x58) (λ y. (10, omega arith, omega arith, ap commandOf (eqb-true code 0x58 y)))
     (λ f. absurd (false≢true (rw (a, b, c, e, f) at h)))))))
 
-module _ (n : ℕ) (cs : List Call) where
+module _ (chosen : Choice) (cs : List Call) where
   abbrev before : Device
-  before = reached n cs
+  before = reached chosen cs
 
   -- set in a run, it leaves the state alike
   limit-set : (k w : ℕ) → 6 ≤ k → k < 11 → Alike (written before (Write.Change (Setting.Limit k w))) before
   unfolding unpagedLeft
   limit-set k w low high =
       let x = Write.Change (Setting.Limit k w) in
-      let g = current n cs in
+      let g = current chosen cs in
       let long = length-map-at (actsOn (before .unpaged)) (pageLeft x) (before .pages) in
       let number : length (written before x .pages) ≡ length (before .pages) = ap length (written-pages before x) ∙ long in
       record {
@@ -327,6 +331,6 @@ run-append d (c ∷ cs) ds = run-append (next d c) cs ds
 
 pub warn-limits-aside : WarnLimitsAside
 unfolding WarnLimitsAside run
-warn-limits-aside n cs ds s h z =
-    rw (run-append (powerOn n) cs (write s ∷ ds), run-append (powerOn n) cs ds)
-    (run-alike ds (next (reached n cs) (write s)) (reached n cs) (limit-written n cs s h z))
+warn-limits-aside x cs ds s h z =
+    rw (run-append (powerOn x) cs (write s ∷ ds), run-append (powerOn x) cs ds)
+    (run-alike ds (next (reached x cs) (write s)) (reached x cs) (limit-written x cs s h z))

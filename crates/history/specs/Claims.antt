@@ -1,10 +1,10 @@
 -- Everything that is guaranteed of the device, over single calls and over runs from power-on: the table of contents of this folder, a line
 -- for each statement. proofs/Claims.antt proves the whole, so that none goes missing.
 -- Assumes nothing.
+use Rattle.device.specs.Touches.{PagesStay}
 use Rattle.history.specs.Valid.{Fifteen, ReachedWhole, ReachedValid, NoFifteen}
 use Rattle.history.specs.Refusals.{Refused, Unchanged}
 use Rattle.history.specs.Accepted.{Accepted, TakesEffect}
-use Rattle.history.specs.Pages.{PagesStay}
 use Rattle.history.specs.Clearing.{Falls, FallsCml}
 use Rattle.history.specs.Latching.{Latched, Latches, LatchesCml}
 use Rattle.history.specs.Tripping.{Tripped, StaysTripped, Trips}
@@ -19,13 +19,13 @@ pub record Claims : Type 0 where
   -- ---- which states get answer 15 (Valid.antt; data sheet 12)
   -- every call to a state that is not valid gets 15, and no other call does
   pub fifteen : Fifteen
-  -- a run of a device of n pages has n pages throughout
+  -- a run has as many pages as were chosen throughout
   pub reached-whole : ReachedWhole
-  -- with one to ninety-six pages each of its states is valid
+  -- with a granted choice, so one to ninety-six pages, each of its states is valid
   pub reached-valid : ReachedValid
   -- so that none of its calls gets 15
   pub no-fifteen : NoFifteen
-  -- ---- what a call leaves alone (Refusals.antt, Pages.antt; data sheet 11.6, 3.2)
+  -- ---- what a call leaves alone (Refusals.antt, `device`'s Touches.antt; data sheet 11.6, 3.2)
   -- a refusal changes at most STATUS_CML and the alert
   pub refused : Refused
   -- and with answers 1, 2 and 12 to 15 nothing at all

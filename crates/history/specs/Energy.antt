@@ -10,7 +10,7 @@ use Rattle.energy.specs.Reply.{Copy, AreCopies}
 use Rattle.energy.specs.Events.{Log, freshLog, logSample, logCopies}
 use Rattle.energy.specs.Claim.{AtEachCopy}
 use Rattle.device.specs.declared.Device.{Device}
-use Rattle.device.specs.Device.{powerOn}
+use Rattle.device.specs.Device.{Choice, powerOn}
 use Rattle.device.specs.Step.{Call, write, read, measure, sample, alertResponse, tick, Result, step}
 use Rattle.history.specs.Run.{next}
 use Rattle.history.specs.Accepted.{codeOf}
@@ -64,7 +64,7 @@ unfoldable pub TrueCopies : Device → List Turn → Type 0
 TrueCopies d [] = Unit
 TrueCopies d (t ∷ ts) = CopiesOf (t .copies) (part d t) × TrueCopies (next d (t .call)) ts
 
--- For every number of pages, every list of calls from one power-on and a fresh totalizer. AtEachCopy (crate energy) is what holds at each copy
+-- For every choice, every list of calls from one power-on and a fresh totalizer. AtEachCopy (crate energy) is what holds at each copy
 -- that the totalizer got: a changed one is refused, an intact one accepted, and the totals are the tally.
 unfoldable pub TotalsTrusted : Type 0
-TotalsTrusted = (n : ℕ) (ts : List Turn) → TrueCopies (powerOn n) ts → AtEachCopy (logAfter (powerOn n) freshLog ts .history)
+TotalsTrusted = (x : Choice) (ts : List Turn) → TrueCopies (powerOn x) ts → AtEachCopy (logAfter (powerOn x) freshLog ts .history)

@@ -18,13 +18,15 @@ use Rattle.pec.specs.Pec.{pec, pecFrom, pecByte, pecBit}
 use Rattle.command.specs.Table.{table, entryOf, lookup}
 use Rattle.command.specs.Meaning.{commandOf, readingOf}
 use Rattle.page.specs.Page.{powerOnPage}
+use Rattle.page.specs.Choice.{chosenPage}
 use Rattle.retry.specs.Machines.{allValid}
 use Rattle.cause.specs.Causes.{causes}
 use Rattle.page.specs.Settings.{pageValid, validOperation}
-use Rattle.unpaged.specs.Unpaged.{powerOnUnpaged, validPage, validProtect, unpagedValid, refused}
-use Rattle.reads.specs.Answers.{entryAnswer, headerAnswer, readAnswer, answersData}
-use Rattle.reads.specs.Data.{readData, checked, readStream}
-use Rattle.device.specs.Device.{powerOn, supported, deviceValid}
+use Rattle.unpaged.specs.Unpaged.{powerOnUnpaged, validPage, validProtect, unpagedValid, refused, shown}
+use Rattle.reads.specs.Request.{plainOf, addressedOf, requestOf}
+use Rattle.reads.specs.Answers.{dataAnswer, requestAnswer, readAnswer, answersData}
+use Rattle.reads.specs.Data.{readData, requestData, checked, readStream}
+use Rattle.device.specs.Device.{usual, supported, chosenUnpaged, powerOn, deviceValid}
 use Rattle.device.specs.Step.{read, sample, answerOf, effect, left, sent, step}
 use Rattle.device.specs.Step as calls
 use Rattle.history.specs.Energy.{Turn, partOf, logPart, logAfter, CopiesOf, TrueCopies}
@@ -69,8 +71,8 @@ turns =
     ∷ []
 
 pub copies-and-history :
-    TrueCopies (powerOn 8) turns
-    × (logAfter (powerOn 8) freshLog turns .history
+    TrueCopies (powerOn (usual 8)) turns
+    × (logAfter (powerOn (usual 8)) freshLog turns .history
     ≡ got intact (answered 0 (totalizer true false (account 21 0 3) 16 2))
     ∷ got intact (answered 0 (totalizer true false (account 21 0 3) 16 2))
     ∷ took 9
@@ -83,6 +85,7 @@ unfolding
     turns TrueCopies CopiesOf AreCopies logAfter partOf logPart logCopies accountValid added sampled einBytes accountOf freshTotalizer
     energyReading replyCheck replyAnswer nextEnergy nextSamples booked totalize totalizing.added pec pecFrom pecByte pecBit table
     entryOf lookup commandOf readingOf powerOnPage pageValid validOperation allValid causes powerOnUnpaged validPage validProtect unpagedValid
-    refused entryAnswer headerAnswer readAnswer answersData readData checked readStream powerOn supported deviceValid step
+    refused shown plainOf addressedOf requestOf dataAnswer requestAnswer readAnswer answersData readData requestData checked readStream usual chosenPage
+    chosenUnpaged powerOn supported deviceValid step
     answerOf calls.answered effect left sent
 copies-and-history = ((tt, (((is-changed, bytes), (tt, tt)), (tt, (tt, (tt, ((tt, (tt, tt)), tt)))))), refl)

@@ -1,4 +1,4 @@
--- The bits of the causes and warnings, and how they latch, on every page i of a run of n pages (data sheet 6.1, 6.4, 6.5, 6.14).
+-- The bits of the causes and warnings, and how they latch, on every page i of a run (data sheet 6.1, 6.4, 6.5, 6.14).
 -- Assumes nothing.
 use Prim.Native.Nat.{ℕ, _<_}
 use mathlib.Core.Path.{_≡_}
@@ -9,7 +9,7 @@ use Rattle.page.specs.Causes.{present}
 use Rattle.page.specs.Latching.{statusBit, registerOf, bitOf, caused}
 use Rattle.unpaged.specs.Unpaged.{cmlBits}
 use Rattle.device.specs.declared.Device.{Device}
-use Rattle.device.specs.Device.{pageOf}
+use Rattle.device.specs.Device.{Choice, numberOf, pageOf}
 use Rattle.device.specs.Step.{Call}
 use Rattle.history.specs.Run.{next, answer, reached, cmlBit}
 use Rattle.history.specs.Clearing.{clears, clearsCml}
@@ -17,16 +17,16 @@ use Rattle.history.specs.Clearing.{clears, clearsCml}
 -- after every call of a run the bit of each present cause and warning is 1; so too after a clearing (data sheet 6.4, 6.14)
 unfoldable pub Latched : Type 0
 Latched =
-    (n : ℕ) (cs : List Call) (i m : ℕ) → i < n → m < 11 → present (pageOf (reached n cs) i) m ≡ true
-    → statusBit (pageOf (reached n cs) i) (registerOf m) (bitOf m) ≡ true
+    (x : Choice) (cs : List Call) (i m : ℕ) → i < numberOf x → m < 11 → present (pageOf (reached x cs) i) m ≡ true
+    → statusBit (pageOf (reached x cs) i) (registerOf m) (bitOf m) ≡ true
 
 -- One equation for each bit and call of a run: a page's bit is 1 after it exactly when it was before and is not cleared, or a cause or
 -- warning with that bit is present; and a bit of CML when it was and is not cleared, or the answer sets it (data sheet 15.3).
 unfoldable pub Latches : Type 0
 Latches =
-    (n : ℕ) (cs : List Call) (c : Call) (i j k : ℕ) → i < n → j < 4
-    → statusBit (pageOf (next (reached n cs) c) i) j k
-    ≡ (statusBit (pageOf (reached n cs) i) j k && not (clears (reached n cs) c i j k) || caused (pageOf (next (reached n cs) c) i) j k)
+    (x : Choice) (cs : List Call) (c : Call) (i j k : ℕ) → i < numberOf x → j < 4
+    → statusBit (pageOf (next (reached x cs) c) i) j k
+    ≡ (statusBit (pageOf (reached x cs) i) j k && not (clears (reached x cs) c i j k) || caused (pageOf (next (reached x cs) c) i) j k)
 
 unfoldable pub LatchesCml : Type 0
 LatchesCml =

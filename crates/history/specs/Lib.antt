@@ -2,7 +2,6 @@ pub mod Run
 pub mod Valid
 pub mod Refusals
 pub mod Clearing
-pub mod Pages
 pub mod Latching
 pub mod Warnings
 pub mod Tripping

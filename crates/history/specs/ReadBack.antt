@@ -10,9 +10,10 @@ use lib.ListN.{length, getD, take}
 use Rattle.laws.specs.Lists.{anyOf, Bytes}
 use Rattle.cause.specs.Causes.{readCodes}
 use Rattle.command.specs.Table.{lookup}
+use Rattle.page.specs.Choice.{PageChoice}
 use Rattle.unpaged.specs.Unpaged.{actsOn}
 use Rattle.device.specs.declared.Device.{Device}
-use Rattle.device.specs.Device.{supported, powerOn}
+use Rattle.device.specs.Device.{Choice, numberOf, choiceAt, granted, powerOn}
 use Rattle.device.specs.Step.{Call, write, read, measure, sample, alertResponse, tick, step}
 use Rattle.history.specs.Run.{next, answer, reached}
 use Rattle.history.specs.Accepted.{codeOf}
@@ -42,7 +43,7 @@ pub record Reads (d : Device) (code : ℕ) (bytes : List ℕ) : Type 0 where
 
 -- ---- written values (data sheet 3.4)
 
--- The codes that keep what is written to them, each with its data after power-on (data sheet 3.1).
+-- The codes that keep what is written to them, each with its data after power-on where nothing else is chosen (data sheet 3.1).
 abbrev pub stored : List (ℕ × List ℕ)
 stored =
     (0x00, 0x00 ∷ [])  -- PAGE
@@ -70,6 +71,10 @@ stored =
 
 abbrev pub storedAt : ℕ → ℕ × List ℕ
 storedAt m = getD stored m (0x00, [])
+
+-- what a row holds after power-on on a page, by what was chosen for it
+unfoldable pub startsAs : PageChoice → ℕ × List ℕ → List ℕ
+startsAs c r = r .1
 
 -- they are all codes that are both written and read, but the status registers 7Ah to 7Eh
 unfoldable pub StoredCodes : Type 0
@@ -102,16 +107,16 @@ writtenData tick = []
 -- After every run a stored code reads as the latest accepted write of it left it, on page i for a paged one while that page is selected.
 unfoldable pub WrittenBack : Type 0
 WrittenBack =
-    (n : ℕ) (cs : List Call) (i m : ℕ) → supported n ≡ true → AllOnBus cs → i < n → m < length stored
-    → (isUnpaged (storedAt m .0) || eqb (reached n cs .unpaged .page) i) ≡ true
-    → Reads (reached n cs) (storedAt m .0) (latest (stores i (storedAt m .0)) writtenData (powerOn n) cs (storedAt m .1))
+    (x : Choice) (cs : List Call) (i m : ℕ) → granted x ≡ true → AllOnBus cs → i < numberOf x → m < length stored
+    → (isUnpaged (storedAt m .0) || eqb (reached x cs .unpaged .page) i) ≡ true
+    → Reads (reached x cs) (storedAt m .0) (latest (stores i (storedAt m .0)) writtenData (powerOn x) cs (startsAs (choiceAt x i) (storedAt m)))
 
 -- In particular right after it: an accepted write of a stored code, and then a read of that code, while a page is selected.
 unfoldable pub WriteThenRead : Type 0
 WriteThenRead =
-    (n : ℕ) (cs : List Call) (s : List ℕ) (m : ℕ) → supported n ≡ true → Bytes s → m < length stored → codeOf s ≡ storedAt m .0
-    → reached n cs .unpaged .page < n → answer (reached n cs) (write s) ≡ 0
-    → Reads (next (reached n cs) (write s)) (codeOf s) (writtenData (write s))
+    (x : Choice) (cs : List Call) (s : List ℕ) (m : ℕ) → granted x ≡ true → Bytes s → m < length stored → codeOf s ≡ storedAt m .0
+    → reached x cs .unpaged .page < numberOf x → answer (reached x cs) (write s) ≡ 0
+    → Reads (next (reached x cs) (write s)) (codeOf s) (writtenData (write s))
 
 -- ---- measured values (data sheet 5.6, 5.7)
 
@@ -141,5 +146,5 @@ lowFirst w = w % 256 ∷ w / 256 ∷ []
 -- before the first.
 unfoldable pub MeasuredBack : Type 0
 MeasuredBack =
-    (n : ℕ) (cs : List Call) (i q : ℕ) → supported n ≡ true → i < n → q < 4 → reached n cs .unpaged .page ≡ i
-    → Reads (reached n cs) (getD readCodes q 0) (lowFirst (latest (measures i q) measuredWord (powerOn n) cs 0))
+    (x : Choice) (cs : List Call) (i q : ℕ) → granted x ≡ true → i < numberOf x → q < 4 → reached x cs .unpaged .page ≡ i
+    → Reads (reached x cs) (getD readCodes q 0) (lowFirst (latest (measures i q) measuredWord (powerOn x) cs 0))

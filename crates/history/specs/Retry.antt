@@ -15,7 +15,7 @@ use Rattle.cause.specs.Causes.{responseOf}
 use Rattle.page.specs.Causes.{present}
 use Rattle.unpaged.specs.Unpaged.{actsOn}
 use Rattle.device.specs.declared.Device.{Device}
-use Rattle.device.specs.Device.{pageOf, supported}
+use Rattle.device.specs.Device.{Choice, numberOf, granted, pageOf}
 use Rattle.device.specs.Step.{Call, write, read, measure, sample, alertResponse, tick}
 use Rattle.history.specs.Run.{next, reached}
 use Rattle.history.specs.Clearing.{acceptedWrite}
@@ -50,8 +50,8 @@ TickQuiet =
 -- a machine that has tripped its page stays so until it is put to rest: no clearing, no tick and no going of the cause does that (data sheet 7.11)
 unfoldable pub StaysDown : Type 0
 StaysDown =
-    (n : ℕ) (cs : List Call) (c : Call) (i k : ℕ) → supported n ≡ true → i < n → k < 6 → trips (machineAt i k (reached n cs)) ≡ true
-    → rests (reached n cs) c i k ≡ false → trips (machineAt i k (next (reached n cs) c)) ≡ true
+    (x : Choice) (cs : List Call) (c : Call) (i k : ℕ) → granted x ≡ true → i < numberOf x → k < 6 → trips (machineAt i k (reached x cs)) ≡ true
+    → rests (reached x cs) c i k ≡ false → trips (machineAt i k (next (reached x cs) c)) ≡ true
 
 -- c starts the machine: at rest or put to rest by c, it finds the cause present after c and the action 10 or 01
 unfoldable pub startsAt : ℕ → ℕ → Device → Call → Bool
@@ -87,8 +87,8 @@ ticks (c ∷ cs) = cond (isTick c) (suc (ticks cs)) (ticks cs)
 -- ticks have passed, whatever else the calls do.
 unfoldable pub LetsOnAgain : Type 0
 LetsOnAgain =
-    (n : ℕ) (cs : List Call) (c : Call) (ds : List Call) (i k : ℕ) → supported n ≡ true → i < n → k < 6
-    → let d = reached n cs in let e = next d c in
+    (x : Choice) (cs : List Call) (c : Call) (ds : List Call) (i k : ℕ) → granted x ≡ true → i < numberOf x → k < 6
+    → let d = reached x cs in let e = next d c in
     1 ≤ retries (responseAt i k e) → retries (responseAt i k e) ≤ 6 → startsAt i k d c ≡ true → lastsThrough i k e ds ≡ true
     → (timesLetOn i k e ds ≤ retries (responseAt i k e)) × (56 ≤ ticks ds → timesLetOn i k e ds ≡ retries (responseAt i k e))
 
@@ -96,7 +96,7 @@ LetsOnAgain =
 -- the start, has come.
 unfoldable pub LetsOnByTicks : Type 0
 LetsOnByTicks =
-    (n : ℕ) (cs : List Call) (c : Call) (ds : List Call) (i k : ℕ) → supported n ≡ true → i < n → k < 6
-    → let d = reached n cs in let e = next d c in
+    (x : Choice) (cs : List Call) (c : Call) (ds : List Call) (i k : ℕ) → granted x ≡ true → i < numberOf x → k < 6
+    → let d = reached x cs in let e = next d c in
     startsAt i k d c ≡ true → lastsThrough i k e ds ≡ true → (j : ℕ) → 1 ≤ j
     → (j ≤ timesLetOn i k e ds) ↔ ((allows (responseAt i k e) j ≡ true) × (onTick (responseAt i k e) j ≤ ticks ds))

@@ -7,7 +7,7 @@ use mathlib.Core.List.{List, [], _∷_}
 use lib.ListN.{length}
 use Rattle.laws.specs.Bits.{bit}
 use Rattle.device.specs.declared.Device.{Device}
-use Rattle.device.specs.Device.{powerOn}
+use Rattle.device.specs.Device.{Choice, powerOn}
 use Rattle.device.specs.Step.{Call, step}
 
 -- the state and the answer after one call
@@ -21,10 +21,10 @@ unfoldable pub run : Device → List Call → Device
 run d [] = d
 run d (c ∷ cs) = run (next d c) cs
 
--- the states of a device of n pages reached from power-on, one after every call of a run, since each beginning of a list is a list.
--- The shelf device is the case 8.
-abbrev pub reached : ℕ → List Call → Device
-reached n cs = run (powerOn n) cs
+-- the states reached from power-on by a choice, one after every call of a run, since each beginning of a list is a list.
+-- The shelf device is the case `usual 8`.
+abbrev pub reached : Choice → List Call → Device
+reached x cs = run (powerOn x) cs
 
 -- a state of n pages
 abbrev pub Whole : ℕ → Device → Type 0

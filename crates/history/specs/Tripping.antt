@@ -1,4 +1,4 @@
--- When a page is tripped, and what untrips it, on every page i of a run of n pages (data sheet 7.1 to 7.4).
+-- When a page is tripped, and what untrips it, on every page i of a run (data sheet 7.1 to 7.4).
 -- Assumes nothing.
 use Prim.Native.Nat.{ℕ, _<_}
 use mathlib.Core.Path.{_≡_}
@@ -10,7 +10,7 @@ use Rattle.page.specs.Causes.{present, shutDown}
 use Rattle.page.specs.Latching.{staysOffBy}
 use Rattle.unpaged.specs.Unpaged.{actsOn}
 use Rattle.device.specs.declared.Device.{Device}
-use Rattle.device.specs.Device.{pageOf}
+use Rattle.device.specs.Device.{Choice, numberOf, pageOf}
 use Rattle.device.specs.Step.{Call}
 use Rattle.history.specs.Run.{next, reached}
 use Rattle.history.specs.Clearing.{acceptedWrite}
@@ -18,8 +18,8 @@ use Rattle.history.specs.Clearing.{acceptedWrite}
 -- a present cause whose response is to shut down and stay off has tripped its page (data sheet 7.1)
 unfoldable pub Tripped : Type 0
 Tripped =
-    (n : ℕ) (cs : List Call) (i m : ℕ) → i < n → m < 6 → present (pageOf (reached n cs) i) m ≡ true
-    → staysOffBy (pageOf (reached n cs) i) m ≡ true → pageOf (reached n cs) i .tripped ≡ true
+    (x : Choice) (cs : List Call) (i m : ℕ) → i < numberOf x → m < 6 → present (pageOf (reached x cs) i) m ≡ true
+    → staysOffBy (pageOf (reached x cs) i) m ≡ true → pageOf (reached x cs) i .tripped ≡ true
 
 -- the writes that untrip, by code and data: OPERATION 00h or 40h
 abbrev pub untripping : ℕ → ℕ → Bool
@@ -38,6 +38,6 @@ StaysTripped =
 -- cause shuts it down without a machine, or a machine has tripped it; at once after an untripping too
 unfoldable pub Trips : Type 0
 Trips =
-    (n : ℕ) (cs : List Call) (c : Call) (i : ℕ) → i < n
-    → pageOf (next (reached n cs) c) i .tripped
-    ≡ (pageOf (reached n cs) i .tripped && not (untrips (reached n cs) c i) || shutDown (pageOf (next (reached n cs) c) i))
+    (x : Choice) (cs : List Call) (c : Call) (i : ℕ) → i < numberOf x
+    → pageOf (next (reached x cs) c) i .tripped
+    ≡ (pageOf (reached x cs) i .tripped && not (untrips (reached x cs) c i) || shutDown (pageOf (next (reached x cs) c) i))

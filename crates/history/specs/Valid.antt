@@ -6,7 +6,7 @@ use mathlib.Core.Bool.{true, not}
 use mathlib.Core.List.{List}
 use lib.Dec.{eqb}
 use Rattle.device.specs.declared.Device.{Device}
-use Rattle.device.specs.Device.{supported, deviceValid}
+use Rattle.device.specs.Device.{Choice, numberOf, granted, deviceValid}
 use Rattle.device.specs.Step.{Call}
 use Rattle.history.specs.Run.{answer, reached, Whole}
 
@@ -16,10 +16,10 @@ Fifteen = (d : Device) (c : Call) → eqb (answer d c) 15 ≡ not (deviceValid d
 
 -- every state of a run has its pages, and is valid
 unfoldable pub ReachedWhole : Type 0
-ReachedWhole = (n : ℕ) (cs : List Call) → Whole n (reached n cs)
+ReachedWhole = (x : Choice) (cs : List Call) → Whole (numberOf x) (reached x cs)
 
 unfoldable pub ReachedValid : Type 0
-ReachedValid = (n : ℕ) (cs : List Call) → supported n ≡ true → deviceValid (reached n cs) ≡ true
+ReachedValid = (x : Choice) (cs : List Call) → granted x ≡ true → deviceValid (reached x cs) ≡ true
 
 unfoldable pub NoFifteen : Type 0
-NoFifteen = (n : ℕ) (cs : List Call) (c : Call) → supported n ≡ true → answer (reached n cs) c ≡ 15 → ⊥
+NoFifteen = (x : Choice) (cs : List Call) (c : Call) → granted x ≡ true → answer (reached x cs) c ≡ 15 → ⊥

@@ -13,7 +13,7 @@ use Rattle.page.specs.declared.Page.{Page}
 use Rattle.page.specs.Latching.{statusBit}
 use Rattle.page.specs.Status.{supplies}
 use Rattle.device.specs.declared.Device.{Device}
-use Rattle.device.specs.Device.{pageOf}
+use Rattle.device.specs.Device.{Choice, pageOf}
 use Rattle.device.specs.Step.{Call, write, read, measure, sample, alertResponse, tick, step}
 use Rattle.history.specs.Run.{next, answer, reached}
 use Rattle.history.specs.Accepted.{codeOf}
@@ -72,8 +72,8 @@ ReplyAlike =
 -- a run goes on alike with an accepted write of a warn limit and without it,
 unfoldable pub WarnLimitsAside : Type 0
 WarnLimitsAside =
-    (n : ℕ) (cs ds : List Call) (s : List ℕ) → warnLimit (codeOf s) ≡ true → answer (reached n cs) (write s) ≡ 0
-    → Alike (reached n (cs ++ write s ∷ ds)) (reached n (cs ++ ds))
+    (x : Choice) (cs ds : List Call) (s : List ℕ) → warnLimit (codeOf s) ≡ true → answer (reached x cs) (write s) ≡ 0
+    → Alike (reached x (cs ++ write s ∷ ds)) (reached x (cs ++ ds))
 
 -- and pages that are alike are tripped alike, by `AlikePages`, and supply alike
 unfoldable pub SupplyAlike : Type 0

@@ -14,6 +14,8 @@ use Rattle.unpaged.proofs.Unpaged as U
 use Rattle.unpaged.proofs.Unpaged.Laws as U′
 use Rattle.writes.proofs.asked.Write as Wr
 use Rattle.writes.proofs.asked.Write.Laws as Wr′
+use Rattle.writes.proofs.answers.Judged as J
+use Rattle.writes.proofs.answers.Judged.Laws as J′
 use Rattle.reads.proofs.reply.Stream as T
 use Rattle.reads.proofs.reply.Stream.Laws as T′
 use Rattle.lent.proofs.Outcome as Result
@@ -42,6 +44,9 @@ writing = record {
   makes = λ 𝓤 H A W. EL.makes Wr.the-type Wr′.the-plain 𝓤 H A;
   lawful = λ 𝓤 H A W. EL.lawful Wr.the-type Wr′.the-laws 𝓤 H A W tt;
 }
+
+abbrev pub judged : Kind
+judged = struct J.the-type J′.the-laws J′.the-plain
 
 abbrev pub stream : Kind
 stream = struct T.the-type T′.the-laws T′.the-plain

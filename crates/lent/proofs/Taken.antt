@@ -1,27 +1,23 @@
--- A record that was taken out: it is the page of the state where the call has that page, and put back as it was it changes nothing.
+-- A record that was taken out: it is the page of the state where the call has that page, and put back as it was it changes nothing. No call
+-- with more than 96 records is accepted.
 -- Assumes nothing.
 use Prim.Native.Nat.{ℕ, zero, suc, _<_}
-use mathlib.Core.Path.{_≡_, refl, ap, _∙_}
-use mathlib.Core.Bool.{true, false, _&&_}
+use mathlib.Core.Path.{_≡_, refl, ap}
+use mathlib.Core.Bool.{Bool, true, false, _&&_, and-eq-true-iff, and-false}
 use mathlib.Core.List.{List, [], _∷_}
 use native.Mathlib.Nat.{not-suc-le-zero, le-of-suc-le-suc}
-use lib.Dec.{ltb}
+use lib.Dec.{T, ltb}
 use lib.ListN.{length, getD, set, List·getD-eq-default}
 use borrow.Author.Tests.{ltb-true, ltb-false}
 use Rattle.laws.proofs.Branches.{either}
-use Rattle.command.specs.Paged.{paged}
 use Rattle.page.specs.declared.Page.{Page}
 use Rattle.page.specs.Page.{noPage, powerOnPage}
 use Rattle.page.specs.Status.{supplies}
 use Rattle.unpaged.specs.declared.Unpaged.{Unpaged}
-use Rattle.unpaged.specs.Unpaged.{everyPage}
-use Rattle.reads.specs.Answers.{readAnswer, answersData}
-use Rattle.reads.specs.Data.{readStream}
-use Rattle.reads.proofs.EveryPage.{same-data, no-data}
-use Rattle.device.specs.declared.Device.{Device}
-use Rattle.device.specs.Device.{device, deviceValid}
-use Rattle.device.specs.Step.{read, answerOf, answered, sent}
-use Rattle.device.proofs.Calls.{valid-page, one-small}
+use Rattle.device.specs.Device.{device, deviceValid, supported}
+use Rattle.device.specs.Step.{Call, answered}
+use Rattle.device.proofs.States.{valid-parts}
+use Rattle.records.specs.Records.{taken, putBack}
 
 -- within a list it does not matter what stands past its end
 pub same-at : {A : Type 0} (d e : A) (l : List A) (i : ℕ) → i < length l → getD l i d ≡ getD l i e
@@ -34,27 +30,35 @@ put-back d [] i = refl
 put-back d (x ∷ l) zero = refl
 put-back d (x ∷ l) (suc i) = ap {B = List _} (λ r. x ∷ r) (put-back d l i)
 
--- what is sent of the selected page; where every page is selected the data are of none
-pub sent-taken : (u : Unpaged) (ps : List Page) (p : Page) (header : List ℕ) (n a : ℕ) → p ≡ getD ps (u .page) powerOnPage → a ≡ answered (device u ps) (read header n)
-    → readStream u p a (getD header 1 0) ≡ sent (device u ps) (read header n) a
-unfolding sent readStream answered answerOf answersData
-sent-taken u ps p header n a taken e =
-    either (deviceValid d) (λ v. either (everyPage u) (everywhere v)
-    (λ one. ap (λ (r : Page). readStream u r a (getD header 1 0)) (taken ∙ same-at powerOnPage noPage ps (u .page) (one-small d (valid-page d v) one))))
-    (λ v. let z : a ≡ 15 = e ∙ rw v in rw z)
-  where
-    d : Device
-    d = device u ps
+-- at most 96 records,
+module _ (ps : List Page) (i : ℕ) (few : ltb (length ps) 97 ≡ true) where
+  pub few-taken : taken ps i ≡ getD ps i powerOnPage
+  unfolding taken
+  few-taken = rw few
 
-    q : Page
-    q = getD ps (u .page) noPage
+  pub few-put : (p : Page) → putBack ps i p ≡ set ps i p
+  unfolding putBack
+  few-put p = rw few
 
-    everywhere : deviceValid d ≡ true → everyPage u ≡ true → readStream u p a (getD header 1 0) ≡ readStream u q a (getD header 1 0)
-    everywhere v every =
-        either (paged (getD header 1 0))
-        (λ y. let read : a ≡ readAnswer u header n = e ∙ rw v in
-        let none : answersData a ≡ false = ap answersData read ∙ no-data u header n every y in rw none)
-        (λ o. rw (same-data u p q (getD header 1 0) o))
+-- as a valid state has,
+pub valid-few : (u : Unpaged) (ps : List Page) → deviceValid (device u ps) ≡ true → ltb (length ps) 97 ≡ true
+unfolding supported
+valid-few u ps v = and-eq-true-iff (ltb 0 (length ps)) (ltb (length ps) 97) .0 (valid-parts (device u ps) v .number) .1
+
+-- and more
+module _ (ps : List Page) (many : ltb (length ps) 97 ≡ false) where
+  pub many-put : (i : ℕ) (p : Page) → putBack ps i p ≡ ps
+  unfolding putBack
+  many-put i p = rw many
+
+  pub many-answered : (u : Unpaged) (c : Call) → answered (device u ps) c ≡ 15
+  unfolding answered deviceValid supported
+  many-answered u c = rw (many, and-false (ltb 0 (length ps)))
+
+-- a page that the records have, and what is asked of it
+pub within : (a b : Bool) → T a → b ≡ (a && b)
+within true b t = refl
+within false b t = absurd t
 
 -- no page beyond the records supplies
 off : supplies powerOnPage ≡ false

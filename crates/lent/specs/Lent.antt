@@ -6,27 +6,44 @@ use mathlib.Core.Bool.{Bool, false, cond, not, _&&_, _||_}
 use mathlib.Core.List.{List}
 use lib.ListN.{length}
 use lib.Dec.{eqb}
+use Rattle.account.specs.Account.{sampled}
 use Rattle.page.specs.declared.Page.{Page}
 use Rattle.page.specs.Causes.{settled}
 use Rattle.page.specs.Settings.{setMeasurement}
 use Rattle.page.specs.Status.{any, risen}
 use Rattle.unpaged.specs.declared.Unpaged.{Unpaged}
-use Rattle.unpaged.specs.Unpaged.{powerOnUnpaged, everyPage, refused, withAlert}
+use Rattle.unpaged.specs.Unpaged.{powerOnUnpaged, everyPage, refused, unpagedValid, withAlert, withEnergy}
 use Rattle.writes.specs.declared.asked.Write.{Write}
 use Rattle.writes.specs.Left.{pageLeft, unpagedLeft, clearing}
+use Rattle.reads.specs.declared.request.Request.{Request}
+use Rattle.reads.specs.Data.{readStream}
+use Rattle.reads.specs.Reply.{stream, alertStream}
 use Rattle.device.specs.declared.Done.{Done}
-use Rattle.device.specs.Device.{device, powerOn, supported}
+use Rattle.device.specs.Device.{device, Choice, usual, supported, chosenUnpaged, powerOn}
 use Rattle.device.specs.Step.{done}
+use Rattle.records.specs.declared.Seen.{Seen}
 use Rattle.lent.specs.declared.Outcome.{Outcome}
 use Rattle.lent.specs.declared.turns.Turn.{Turn}
+use Rattle.lent.specs.declared.turns.Sending.{Sending}
 
 -- an outcome beside the records after the call
 abbrev pub beside : Outcome → List Page → Done
 beside r ps = done (device (r .unpaged) ps) (r .answer)
 
--- power-on: with one to ninety-six records every one is set; with any other number the unpaged part alone
-unfoldable pub powered : List Page → Done
-powered ps = cond (supported (length ps)) (done (powerOn (length ps)) 0) (done (device powerOnUnpaged ps) 15)
+-- power-on by a choice for as many pages: with one to ninety-six records every one is set; with any other number the unpaged part alone
+unfoldable pub poweredBy : Choice → List Page → Done
+poweredBy x ps = cond (supported (length ps)) (done (powerOn x) 0) (done (device (chosenUnpaged x) ps) 15)
+
+abbrev pub powered : List Page → Done
+powered ps = poweredBy (usual (length ps)) ps
+
+-- the test for answer 15, by what is known of all records: `deviceValid` of every list of records of which it is known
+unfoldable pub seenValid : Seen → Unpaged → Bool
+seenValid s u = supported (s .number) && unpagedValid (s .number) u && s .valid
+
+-- the answer of a call whose rule answers so
+unfoldable pub seenAnswer : Seen → Unpaged → ℕ → ℕ
+seenAnswer s u rule = cond (seenValid s u) rule 15
 
 abbrev pub outcome : Unpaged → ℕ → Outcome
 outcome u answer = record { unpaged = u; answer = answer }
@@ -41,12 +58,15 @@ poweredOutcome n = outcome powerOnUnpaged (cond (supported n) 0 15)
 unfoldable pub refusedOutcome : Unpaged → ℕ → Outcome
 refusedOutcome u answer = outcome (refused u answer) answer
 
--- what an accepted write makes of the page that it acts on; where that is every page, p is none of them
+-- what an accepted write makes of the page that it acts on; where that is every page, p is none of them and stays as it is
+abbrev pub acceptedPage : Unpaged → Page → Write → Page
+acceptedPage u p w = cond (everyPage u) p (pageLeft w p)
+
 abbrev pub acceptedUnpaged : Unpaged → Page → Write → Unpaged
-acceptedUnpaged u p w = withAlert (unpagedLeft w u) (unpagedLeft w u .alert || (risen p (pageLeft w p) && not (everyPage u)))
+acceptedUnpaged u p w = withAlert (unpagedLeft w u) (unpagedLeft w u .alert || (risen p (acceptedPage u p w) && not (everyPage u)))
 
 unfoldable pub acceptedTurn : Unpaged → Page → Write → Turn
-acceptedTurn u p w = turn (outcome (acceptedUnpaged u p w) 0) (pageLeft w p) (everyPage u) (clearing w)
+acceptedTurn u p w = turn (outcome (acceptedUnpaged u p w) 0) (acceptedPage u p w) (everyPage u) (clearing w)
 
 unfoldable pub writeTurn : Unpaged → Page → ℕ → Write → Turn
 writeTurn u p answer w = cond (eqb answer 0) (acceptedTurn u p w) (turn (refusedOutcome u answer) p false false)
@@ -68,6 +88,20 @@ unfoldable pub finished : Outcome → Bool → Bool → Bool → Outcome
 finished r clears rose standing =
     outcome (withAlert (r .unpaged) (cond clears (standing || any (r .unpaged .cml)) (r .unpaged .alert || rose))) (r .answer)
 
+-- a sample that is taken goes into the account
+unfoldable pub sampleLeft : Unpaged → ℕ → ℕ → Outcome
+sampleLeft u answer power = cond (eqb answer 0) (outcome (withEnergy u (sampled (u .energy) power .account)) answer) (refusedOutcome u answer)
+
 -- an answered alert response takes the alert down
 unfoldable pub alertLeft : Unpaged → ℕ → Outcome
 alertLeft u answer = cond (eqb answer 0) (outcome (withAlert u false) answer) (refusedOutcome u answer)
+
+-- what is sent beside an outcome
+abbrev pub sending : Outcome → List ℕ → Sending
+sending r bytes = record { outcome = r; stream = stream bytes }
+
+unfoldable pub readTurn : Unpaged → Page → ℕ → Request → List ℕ → Sending
+readTurn u p answer request header = sending (refusedOutcome u answer) (readStream u p answer request header)
+
+unfoldable pub alertTurn : Unpaged → ℕ → Sending
+alertTurn u answer = sending (alertLeft u answer) (alertStream answer)

@@ -1,6 +1,6 @@
 // The device whose page records the firmware lends, 1 to 96 of them, as a slice; the unpaged part goes in and comes back by
 // value. Power-on and the calls of the eight-page device, over as many pages as are lent. Any number of records, and any
-// values in them, are taken. A call takes one record out, asks the rules by value, and puts it back; of the others it only
+// values in them, are taken; with none, or more than 96, a call reads no record. A call takes one record out, asks the rules by value, and puts it back; of the others it only
 // asks whether they are valid and, after a clearing, whether a status bit stands. A tick walks over all, and so does a write where PAGE is FFh:
 // no record has that index, so the one taken out is none of them, and putting it back sets none.
 ghost use mathlib.Core.Path.{_≡_};
@@ -46,10 +46,10 @@ pub extern "C" fn tongsorrel_lent_write(u: Unpaged, pages: &mut [Page], bytes: &
 {
     let seen = records::survey(pages);
     let p = records::take(pages, u.page);
-    let w = writes::asked::asked(bytes);
-    let t = turns::write_turn(bytes, seen, u, p, w);
+    let j = turns::judged(bytes, seen, u);
+    let t = turns::write_turn(seen, u, p, j);
     records::put(pages, u.page, t.page);
-    let rose = every::every(pages, w, t.every);
+    let rose = every::every(pages, j.write, t.every);
     let standing = records::any_bit(pages, t.clears);
     turns::finished(t.outcome, t.clears, rose, standing)
 }
@@ -67,7 +67,8 @@ pub extern "C" fn tongsorrel_lent_read(
 {
     let n = reply.len();
     let seen = records::survey(pages);
-    let p = records::take(pages, u.page);
+    let k = unpaged::shown(u);
+    let p = records::take(pages, k);
     let t = turns::read_turn(header, seen, u, p, n);
     reads::reply::send(reply, t.stream);
     t.outcome
@@ -131,11 +132,14 @@ pub extern "C" fn tongsorrel_lent_tick(u: Unpaged, pages: &mut [Page]) -> Outcom
     r
 }
 
-// Whether page i supplies; no page beyond the records does.
+// Whether page i supplies; no page beyond the records does. A question of one record, whatever their number.
 #[no_mangle]
 pub extern "C" fn tongsorrel_lent_supplies(pages: &[Page], i: u8) -> bool
     ensures { λ r. ⌜ r ≡ (ltb i (length (now (pages .entry))) && supplies (getD (now (pages .entry)) i noPage)) ⌝ }
 {
-    let p = records::take(pages, i);
-    page::status::supplies(p)
+    let k = i as usize;
+    if k < pages.len() {
+        return page::status::supplies(pages[k]);
+    }
+    false
 }

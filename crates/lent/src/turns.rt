@@ -1,22 +1,23 @@
 // What a call decides, by value: from what is known of all records, the unpaged part and the one record that the call works
-// on. The contracts speak of every list of records of which that is known.
+// on. That this is the call's definition wherever it is known of the records lent is shown once (proofs/Known.antt).
 ghost use mathlib.Core.Path.{_≡_};
 ghost use mathlib.Core.Bool.{cond};
-ghost use mathlib.Core.List.{List};
 ghost use lib.ListN.{getD};
-ghost use Rattle.page.specs.declared.Page.{Page as PageRecord};
-ghost use Rattle.page.specs.Page.{powerOnPage};
-ghost use Rattle.reads.specs.Reply.{streamOf, replyOf};
-ghost use Rattle.device.specs.Device.{device, deviceValid};
-ghost use Rattle.device.specs.Step.{write, read, measure, sample, alertResponse, tick, answered, step};
-ghost use Rattle.records.specs.Records.{surveyed};
-ghost use Rattle.lent.specs.Lent.{beside, outcome, poweredOutcome, refusedOutcome, acceptedTurn, measuredTurn, writeTurn, measureTurn, finished, alertLeft};
+ghost use Rattle.account.specs.Account.{sampled};
+ghost use Rattle.unpaged.specs.Events.{measureAnswer, alertAnswer};
+ghost use Rattle.writes.specs.Asked.{asked};
+ghost use Rattle.writes.specs.Answers.{writeAnswer};
+ghost use Rattle.writes.specs.Left.{pageLeft};
+ghost use Rattle.reads.specs.Request.{requestOf};
+ghost use Rattle.reads.specs.Answers.{readAnswer};
+ghost use Rattle.lent.specs.Lent.{seenValid, seenAnswer, outcome, poweredOutcome, refusedOutcome, acceptedTurn, measuredTurn, writeTurn, measureTurn, finished, sampleLeft, alertLeft, readTurn, alertTurn};
 use super::Outcome;
 use page::Page;
 use reads::reply::Stream;
 use records::Seen;
 use unpaged::Unpaged;
 use writes::Write;
+use writes::answers::Judged;
 
 // What a write or a measurement leaves: the record, and the unpaged part with its answer. Whether the write is still to be
 // made on every record, and whether the alert, after a clearing, is still to be worked out from all.
@@ -52,14 +53,14 @@ pub fn powered(n: usize) -> Outcome
 
 // The state is one that no answer 15 goes to.
 fn state_valid(s: Seen, u: Unpaged) -> bool
-    ensures { λ r. ⌜ ((ps : List PageRecord) → s ≡ surveyed ps → r ≡ deviceValid (device u ps)) ⌝ }
+    ensures { λ r. ⌜ r ≡ seenValid s u ⌝ }
 {
     (0 < s.number) & (s.number < 97) & unpaged::unpaged_valid(s.number, u) & s.valid
 }
 
 // The answer of a call whose rule answers so.
 fn answered(s: Seen, u: Unpaged, rule: u8) -> u8
-    ensures { λ r. ⌜ ((ps : List PageRecord) → s ≡ surveyed ps → r ≡ cond (deviceValid (device u ps)) rule 15) ⌝ }
+    ensures { λ r. ⌜ r ≡ seenAnswer s u rule ⌝ }
 {
     if !state_valid(s, u) {
         return answer::INVALID_STATE;
@@ -77,14 +78,24 @@ fn refused_outcome(u: Unpaged, answer: u8) -> Outcome
     }
 }
 
-// An accepted write. Where it acts on every page p is none of them, and its bits do not count.
+// The record after an accepted write. Where the write acts on every page p is none of them, and no time is spent on it.
+fn one_left(w: Write, p: Page, every: bool) -> Page
+    ensures { λ r. ⌜ r ≡ cond every p (pageLeft w p) ⌝ }
+{
+    if every {
+        return p;
+    }
+    writes::left::page_left(w, p)
+}
+
+// An accepted write. Where it acts on every page the bits of p do not count.
 fn accepted(u: Unpaged, p: Page, w: Write) -> Turn
     ensures { λ r. ⌜ r ≡ acceptedTurn u p w ⌝ }
 {
-    let q = writes::left::page_left(w, p);
+    let every = u.page == 0xFF;
+    let q = one_left(w, p, every);
     let mut v = writes::left::unpaged_left(w, u);
     let rose = page::status::risen(p, q);
-    let every = u.page == 0xFF;
     v.alert = v.alert | (rose & !every);
     let done = Outcome {
         unpaged: v,
@@ -98,7 +109,8 @@ fn accepted(u: Unpaged, p: Page, w: Write) -> Turn
     }
 }
 
-fn write_left(u: Unpaged, p: Page, answer: u8, w: Write) -> Turn
+// A write with this answer, which asks for w where it is accepted.
+pub fn write_left(u: Unpaged, p: Page, answer: u8, w: Write) -> Turn
     ensures { λ r. ⌜ r ≡ writeTurn u p answer w ⌝ }
 {
     if answer == answer::DONE {
@@ -113,12 +125,19 @@ fn write_left(u: Unpaged, p: Page, answer: u8, w: Write) -> Turn
     }
 }
 
-// A write that asks for w, and whose selected record is p.
-pub fn write_turn(bytes: &[u8], s: Seen, u: Unpaged, p: Page, w: Write) -> Turn
-    ensures { λ r. ⌜ ((ps : List PageRecord) → s ≡ surveyed ps → r ≡ writeTurn u p (answered (device u ps) (write (now (bytes .entry)))) w) ⌝ }
+// The rule's answer to a write, and what the write asks for where it is accepted: its bytes are decoded here and nowhere else.
+pub fn judged(bytes: &[u8], s: Seen, u: Unpaged) -> Judged
+    ensures { λ r. ⌜ (r .answer ≡ writeAnswer (s .number) u (now (bytes .entry))) × (r .answer ≡ 0 → r .write ≡ asked (now (bytes .entry))) ⌝ }
 {
-    let rule = writes::write_answer(s.number, u, bytes);
-    let answer = answered(s, u, rule);
+    writes::answers::judge(s.number, u, bytes)
+}
+
+// A write that was judged so, and whose selected record is p.
+pub fn write_turn(s: Seen, u: Unpaged, p: Page, j: Judged) -> Turn
+    ensures { λ r. ⌜ r ≡ writeTurn u p (seenAnswer s u (j .answer)) (j .write) ⌝ }
+{
+    let w = j.write;
+    let answer = answered(s, u, j.answer);
     write_left(u, p, answer, w)
 }
 
@@ -175,7 +194,7 @@ fn measure_left(u: Unpaged, p: Page, answer: u8, quantity: u8, word: u16) -> Tur
 
 // A measurement on a page whose record is p.
 pub fn measure_turn(s: Seen, u: Unpaged, p: Page, page: u8, quantity: u8, word: u16) -> Turn
-    ensures { λ r. ⌜ ((ps : List PageRecord) → s ≡ surveyed ps → r ≡ measureTurn u p (answered (device u ps) (measure page quantity word)) quantity word) ⌝ }
+    ensures { λ r. ⌜ r ≡ measureTurn u p (seenAnswer s u (measureAnswer (s .number) page quantity)) quantity word ⌝ }
 {
     let rule = unpaged::events::measure_answer(s.number, page, quantity);
     let answer = answered(s, u, rule);
@@ -184,7 +203,7 @@ pub fn measure_turn(s: Seen, u: Unpaged, p: Page, page: u8, quantity: u8, word: 
 
 // A power sample.
 pub fn sample_outcome(s: Seen, u: Unpaged, power: u16) -> Outcome
-    ensures { λ r. ⌜ ((ps : List PageRecord) → s ≡ surveyed ps → beside r ps ≡ step (device u ps) (sample power) .done) ⌝ }
+    ensures { λ r. ⌜ r ≡ sampleLeft u (seenAnswer s u (sampled (u .energy) power .answer)) power ⌝ }
 {
     let energy = u.energy;
     let sampled = account::sample(energy, power);
@@ -202,7 +221,7 @@ pub fn sample_outcome(s: Seen, u: Unpaged, power: u16) -> Outcome
 
 // A tick.
 pub fn tick_outcome(s: Seen, u: Unpaged) -> Outcome
-    ensures { λ r. ⌜ ((ps : List PageRecord) → s ≡ surveyed ps → r ≡ outcome u (answered (device u ps) tick)) ⌝ }
+    ensures { λ r. ⌜ r ≡ outcome u (seenAnswer s u 0) ⌝ }
 {
     let answer = answered(s, u, answer::DONE);
     Outcome {
@@ -211,16 +230,14 @@ pub fn tick_outcome(s: Seen, u: Unpaged) -> Outcome
     }
 }
 
-// A read whose selected record is p, with n bytes clocked.
+// A read that looks at the record p, with n bytes clocked.
 pub fn read_turn(header: &[u8], s: Seen, u: Unpaged, p: Page, n: usize) -> Sending
-    ensures { λ r. ⌜ ((ps : List PageRecord) → s ≡ surveyed ps → p ≡ getD ps (u .page) powerOnPage
-        → (beside (r .outcome) ps ≡ step (device u ps) (read (now (header .entry)) n) .done)
-        × (replyOf (streamOf (r .stream)) n ≡ step (device u ps) (read (now (header .entry)) n) .reply)) ⌝ }
+    ensures { λ r. ⌜ r ≡ readTurn u p (seenAnswer s u (readAnswer u p (now (header .entry)) n)) (requestOf (now (header .entry))) (now (header .entry)) ⌝ }
 {
-    let rule = reads::answers::read_answer(u, header, n);
+    let request = reads::request::request_of(header);
+    let rule = reads::answers::request_answer(u, p, request, n);
     let answer = answered(s, u, rule);
-    let code = writes::bytes::byte_at(header, 1);
-    let sent = reads::data::read_stream(u, p, answer, code);
+    let sent = reads::data::read_stream(u, p, answer, request, header);
     let r = refused_outcome(u, answer);
     Sending {
         outcome: r,
@@ -244,9 +261,7 @@ fn alert_down(u: Unpaged, answer: u8) -> Outcome
 
 // An alert response of n bytes.
 pub fn alert_turn(s: Seen, u: Unpaged, n: usize) -> Sending
-    ensures { λ r. ⌜ ((ps : List PageRecord) → s ≡ surveyed ps
-        → (beside (r .outcome) ps ≡ step (device u ps) (alertResponse n) .done)
-        × (replyOf (streamOf (r .stream)) n ≡ step (device u ps) (alertResponse n) .reply)) ⌝ }
+    ensures { λ r. ⌜ r ≡ alertTurn u (seenAnswer s u (alertAnswer (u .alert) n)) ⌝ }
 {
     let rule = unpaged::events::alert_answer(u.alert, n);
     let answer = answered(s, u, rule);

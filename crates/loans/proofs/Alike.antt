@@ -11,7 +11,7 @@ use Rattle.device.specs.Device.{supported}
 use Rattle.device.specs.Step.{done}
 use Rattle.device.specs.Supply.{suppliesAt}
 use Rattle.lent.specs.declared.Outcome.{Outcome}
-use Rattle.lent.specs.Lent.{beside, powered}
+use Rattle.lent.specs.Lent.{beside, poweredBy}
 use Rattle.loans.specs.Alike.{Same, AnswerAlike, ReplyAlike, PowerOnAlike, SuppliesAlike}
 
 same : (r : Done) (o : Outcome) (qs : List Page) → beside o qs ≡ r → Same (r .device) (r .answer) o qs
@@ -30,7 +30,7 @@ unfolding ReplyAlike
 reply-alike d c reply lentReply a b = b ∙ sym a
 
 pub power-on-alike : PowerOnAlike
-unfolding PowerOnAlike powered supported
+unfolding PowerOnAlike poweredBy supported
 power-on-alike d ps o qs eight a b = same (done d 0) o qs (b ∙ rw eight (ap (λ x. done x 0) (sym a)))
 
 pub supplies-alike : SuppliesAlike

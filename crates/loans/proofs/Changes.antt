@@ -15,15 +15,16 @@ use Rattle.device.specs.declared.Device.{Device}
 use Rattle.device.specs.declared.Done.{Done}
 use Rattle.device.specs.Device.{device, deviceValid}
 use Rattle.device.specs.Step.{Call, write, read, measure, sample, alertResponse, tick, sent, clocked, step}
+use Rattle.device.specs.Touches.{PagesStay}
+use Rattle.device.proofs.PowerOn.{usual-unpaged}
+use Rattle.device.proofs.Touches.{pages-stay}
 use Rattle.history.specs.Run.{next, answer}
 use Rattle.history.specs.Valid.{Fifteen}
 use Rattle.history.specs.Refusals.{Unchanged, silent}
-use Rattle.history.specs.Pages.{PagesStay}
-use Rattle.history.proofs.PageAfter.{pages-stay}
 use Rattle.history.proofs.Refusals.{unchanged}
 use Rattle.history.proofs.Runs.{same-length}
 use Rattle.history.proofs.Valid.{fifteen}
-use Rattle.lent.specs.Lent.{powered}
+use Rattle.lent.specs.Lent.{poweredBy}
 use Rattle.loans.specs.Changes.{FifteenExactly, RecordsStay, FifteenLeaves, FifteenReplies, PowerOnLeaves}
 
 pub fifteen-exactly : FifteenExactly
@@ -73,7 +74,7 @@ unfolding FifteenReplies
 fifteen-replies u ps c o qs reply e r z = r ∙ fifteen-sends (device u ps) c (sym (ap (λ (x : Done). x .answer) e) ∙ z)
 
 pub power-on-leaves : PowerOnLeaves
-unfolding PowerOnLeaves powered
+unfolding PowerOnLeaves poweredBy
 power-on-leaves ps o qs e h =
     let p = rw h at e in
-    (ap (λ (x : Done). x .answer) p, ap (λ (x : Done). x .device .unpaged) p, ap (λ (x : Done). x .device .pages) p)
+    (ap (λ (x : Done). x .answer) p, ap (λ (x : Done). x .device .unpaged) p ∙ usual-unpaged (length ps), ap (λ (x : Done). x .device .pages) p)

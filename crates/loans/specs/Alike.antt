@@ -13,7 +13,7 @@ use Rattle.page.specs.Status.{supplies}
 use Rattle.unpaged.specs.declared.Unpaged.{Unpaged}
 use Rattle.device.specs.declared.Device.{Device}
 use Rattle.device.specs.declared.Done.{Done}
-use Rattle.device.specs.Device.{device, powerOn}
+use Rattle.device.specs.Device.{device, usual, powerOn}
 use Rattle.device.specs.Step.{Call, step}
 use Rattle.device.specs.Supply.{suppliesAt}
 use Rattle.lent.specs.declared.Outcome.{Outcome}
@@ -37,7 +37,7 @@ LentReply u ps c reply = reply ≡ step (device u ps) c .reply
 
 -- `device::power_on` and `lent::tongsorrel_lent_power_on`
 abbrev pub DevicePowered : Device → Type 0
-DevicePowered d = d ≡ powerOn 8
+DevicePowered d = d ≡ powerOn (usual 8)
 
 abbrev pub LentPowered : List Page → Outcome → List Page → Type 0
 LentPowered ps o qs = beside o qs ≡ powered ps

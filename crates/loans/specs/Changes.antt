@@ -14,7 +14,7 @@ use Rattle.unpaged.specs.declared.Unpaged.{Unpaged}
 use Rattle.unpaged.specs.Unpaged.{powerOnUnpaged, unpagedValid}
 use Rattle.device.specs.Device.{device, supported}
 use Rattle.device.specs.Step.{Call, clocked}
-use Rattle.history.specs.Pages.{touches}
+use Rattle.device.specs.Touches.{touches}
 use Rattle.lent.specs.declared.Outcome.{Outcome}
 use Rattle.loans.specs.Alike.{LentDone, LentReply, LentPowered}
 

@@ -4,3 +4,4 @@ pub mod Setters
 pub mod Ready
 pub mod Bits
 pub mod StatusWords
+pub mod Chosen

@@ -13,6 +13,7 @@ use Rattle.linear11.specs.Linear11.{linearOrder, wordOrder}
 use Rattle.retry.specs.Machines.{allAtCall, allAtTick, anyTrips, anyTripsNow}
 use Rattle.cause.specs.Causes.{Side, above, below, VOUT, Limit, causes, faults, warnings, limits, tripsAt, lastsAt, register}
 use Rattle.page.specs.declared.Page.{Page}
+use Rattle.page.specs.declared.causes.Update.{Update}
 use Rattle.page.specs.Page.{withMachines, withStatus, withTripped}
 
 -- how a word stands to a limit of that quantity (data sheet 5.2, 5.5): VOUT's as plain numbers, the others by their values
@@ -87,6 +88,10 @@ moved p ms =
 -- start (data sheet 6.4, 6.14, 7.8).
 unfoldable pub settled : Page → Page
 settled p = withStatus (moved p (allAtCall (p .responses) (presentCauses p) (p .machines))) (raised (p .status) (presentLimits p))
+
+-- what that changes of the page
+unfoldable pub updateOf : Page → Update
+updateOf p = record { machines = settled p .machines; status = settled p .status; tripped = settled p .tripped }
 
 -- A tick on a page: its machines move on; no bit is set (data sheet 7.9).
 unfoldable pub ticked : Page → Page

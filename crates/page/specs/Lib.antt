@@ -2,5 +2,6 @@ pub mod Page
 pub mod Causes
 pub mod Latching
 pub mod Settings
+pub mod Choice
 pub mod Status
 pub mod StatusWords

@@ -3,7 +3,7 @@
 use Prim.Native.Nat.{ℕ}
 use mathlib.Core.Bool.{Bool, false}
 use mathlib.Core.List.{List, [], _∷_, map}
-use Rattle.cause.specs.Causes.{limits, responses}
+use Rattle.cause.specs.Causes.{powerOnLimits, startsWith, responses}
 use Rattle.page.specs.declared.Page.{Page}
 
 -- the machines of a page, none of them under way
@@ -16,7 +16,7 @@ unfoldable pub powerOnPage : Page
 powerOnPage = record {
   operation = 0x00;
   command = 0x2666;
-  limits = map (λ l. l .powerOnLimit) limits;
+  limits = startsWith powerOnLimits;
   responses = map (λ r. r .powerOnResponse) responses;
   machines = resting;
   words = 0 ∷ 0 ∷ 0 ∷ 0 ∷ [];

@@ -3,7 +3,7 @@ ghost use mathlib.Core.Path.{_≡_};
 ghost use mathlib.Core.Bool.{_&&_};
 ghost use Rattle.linear11.specs.Linear11.{linearOrder, wordOrder};
 ghost use Rattle.cause.specs.Causes.{above, below};
-ghost use Rattle.page.specs.Causes.{onSide, presentCauses, presentWarnings, presentLimits, weigh, raised, tripsAtOnce, offWhileLasts, moved, settled, ticked};
+ghost use Rattle.page.specs.Causes.{onSide, presentCauses, presentWarnings, presentLimits, weigh, raised, tripsAtOnce, offWhileLasts, moved, settled, updateOf, ticked};
 use super::Page;
 use linear11::Order;
 
@@ -137,9 +137,16 @@ fn moved(p: Page, fault: [bool; 6], machines: [u8; 6]) -> Page
     q
 }
 
-// The page brought up to date with its present causes and warnings, at the end of a call that touched it. Warnings never trip it.
-pub fn settled(p: Page) -> Page
-    ensures { λ r. ⌜ r ≡ settled p ⌝ }
+// What bringing a page up to date changes of it: eleven bytes of fifty-six.
+pub struct Update {
+    pub machines: [u8; 6],
+    pub status: [u8; 4],
+    pub tripped: bool,
+}
+
+// The page's present causes and warnings set their bits, and the causes move its machines. Warnings never trip it.
+fn update_of(p: Page) -> Update
+    ensures { λ r. ⌜ r ≡ updateOf p ⌝ }
 {
     let fault = present_causes(p);
     let warning = present_warnings(p);
@@ -147,8 +154,27 @@ pub fn settled(p: Page) -> Page
     let before = p.machines;
     let responses = p.responses;
     let machines = retry::machines::all_at_call(before, responses, fault);
-    let mut q = moved(p, fault, machines);
-    q.status = registers;
+    let at_once = trips_at_once(fault, responses);
+    let now = retry::machines::any_trips_now(before, machines);
+    Update {
+        machines: machines,
+        status: registers,
+        tripped: p.tripped | at_once | now,
+    }
+}
+
+// The page brought up to date, at the end of a call that touched it. It does not go through the rules: a copy that is read again
+// right after parts of it were stored waits for them.
+pub fn settled(p: Page) -> Page
+    ensures { λ r. ⌜ r ≡ settled p ⌝ }
+{
+    let new = update_of(p);
+    let machines = new.machines;
+    let status = new.status;
+    let mut q = p;
+    q.machines = machines;
+    q.status = status;
+    q.tripped = new.tripped;
     q
 }
 

@@ -9,21 +9,18 @@ use native.Mathlib.Omega.{arith}
 use borrow.Author.Tests.{eqb-true, ne-eqb}
 use Rattle.laws.proofs.Branches.{either}
 use Rattle.command.specs.Table.{lookup}
-use Rattle.reads.specs.Answers.{entryAnswer, headerAnswer, readAnswer}
+use Rattle.reads.specs.Request.{plainOf, addressedOf, requestOf}
+use Rattle.reads.specs.Answers.{dataAnswer, requestAnswer, readAnswer}
 use Rattle.reads.specs.Applies.{code, AnswersApply}
 
 pub answers-apply : AnswersApply
-unfolding AnswersApply readAnswer headerAnswer entryAnswer
-answers-apply u header n =
+unfolding AnswersApply readAnswer requestOf addressedOf plainOf requestAnswer dataAnswer
+answers-apply u p header n =
     either (eqb (length header) 0) (λ none. let e = eqb-true (length header) 0 none in rw (none, ne-eqb (length header) 3 (omega arith)))
     (λ some. either (eqb (getD header 0 0) 0xC0)
     (λ ours. either (eqb (length header) 3)
     (λ three. either (eqb (getD header 2 0) 0xC1)
-    (λ read. rw (some, ours, three, read) (turn (lookup (code header) .read) _))
+    (λ last. either (lookup (code header) .read) (λ yes. rw (some, ours, three, last, yes)) (λ no. rw (some, ours, three, last, no)))
     (λ other. rw (some, ours, three, other)))
     (λ other. rw (some, ours, other)))
     (λ other. rw (some, other)))
-  where
-    turn : (r : Bool) (d : ℕ) → cond r d 3 ≡ cond (not r) 3 d
-    turn true d = refl
-    turn false d = refl

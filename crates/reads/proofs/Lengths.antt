@@ -17,7 +17,9 @@ use Rattle.command.specs.declared.meaning.Command.the-variants.{SelectPage, Ope
 use Rattle.page.specs.declared.Page.{Page}
 use Rattle.unpaged.specs.declared.Unpaged.{Unpaged}
 use Rattle.reads.specs.Answers.{answersData}
-use Rattle.reads.specs.Data.{readData, checked, readStream}
+use Rattle.reads.specs.declared.request.Request.{Request}
+use Rattle.reads.specs.declared.request.Request.the-variants.{Refused, Plain}
+use Rattle.reads.specs.Data.{readData, requestData, checked, readStream}
 use Rattle.reads.specs.Reply.{alertStream}
 
 -- the data bytes of a command are as many as its row says, at most seven
@@ -41,13 +43,19 @@ module _ (u : Unpaged) (p : Page) where
   data-length Revision = (refl, omega arith)
   data-length Absent = (refl, omega arith)
 
-  pub stream-length : (answer code : ℕ) → length (readStream u p answer code) ≤ 8
+  -- and so are those of a request
+  request-length : (r : Request) → length (requestData u p r) ≤ 7
+  unfolding requestData
+  request-length (Refused a) = omega arith
+  request-length (Plain code k) = data-length (commandOf code) .1
+
+  pub stream-length : (answer : ℕ) (r : Request) (header : List ℕ) → length (readStream u p answer r header) ≤ 8
   unfolding readStream checked
-  stream-length answer code =
-      let l = readData u p (commandOf code) in
-      let short = data-length (commandOf code) .1 in
+  stream-length answer r header =
+      let l = requestData u p r in
+      let short = request-length r in
       either (answersData answer)
-      (λ y. rw y (let e = length-append l (pec (0xC0 ∷ code ∷ 0xC1 ∷ l) ∷ []) in omega arith))
+      (λ y. rw y (let e = length-append l (pec (header ++ l) ∷ []) in omega arith))
       (λ n. rw n (omega arith))
 
 pub alert-length : (answer : ℕ) → length (alertStream answer) ≤ 8

@@ -3,4 +3,4 @@ pub mod Streams
 pub mod Lengths
 pub mod Applies
 pub mod Replies
-pub mod EveryPage
+pub mod Requests

@@ -13,19 +13,22 @@ use lib.Seq.{take-append-le, take-append-add, take-all}
 use Rattle.laws.specs.Lists.{Bytes}
 use Rattle.laws.proofs.Every.{agree}
 use Rattle.laws.proofs.Lists.{byte-lt}
+use Rattle.pec.specs.Pec.{pec}
 use Rattle.command.specs.Table.{table, lookup, entryOf}
 use Rattle.command.specs.Meaning.{commandOf, settingOf, faultOf, readingOf}
 use Rattle.command.specs.Agreement.{rowOf}
 use Rattle.page.specs.declared.Page.{Page}
 use Rattle.unpaged.specs.declared.Unpaged.{Unpaged}
 use Rattle.reads.specs.Answers.{readAnswer, answersData}
-use Rattle.reads.specs.Data.{readData, checked, readStream}
+use Rattle.reads.specs.Request.{requestOf}
+use Rattle.reads.specs.Data.{readData, requestData, checked, readStream}
 use Rattle.reads.specs.Reply.{replyOf}
 use Rattle.unpaged.proofs.Applies.{given-applies}
 use Rattle.reads.specs.Applies.{code, due, readLines, AnswersApply}
 use Rattle.reads.specs.Replies.{checkOf, Reply, RepliesFollow}
 use Rattle.reads.proofs.Applies.{answers-apply}
 use Rattle.reads.proofs.Lengths.{data-length}
+use Rattle.reads.proofs.Requests.{sends}
 
 -- the first m of n bytes FFh
 fewer : (m n : ℕ) → m ≤ n → take {A = ℕ} m (replicate n 255) ≡ replicate m 255
@@ -81,38 +84,52 @@ data-due u p c h =
 
 module _ (u : Unpaged) (p : Page) (header : List ℕ) (n : ℕ) (byte : Bytes header) where
   abbrev answer : ℕ
-  answer = readAnswer u header n
+  answer = readAnswer u p header n
 
   abbrev bytes : List ℕ
   bytes = readData u p (commandOf (code header))
+
+  abbrev sent : List ℕ
+  sent = readStream u p answer (requestOf header) header
 
   -- a number that is given applies
   below : answer ≡ 10 → n < due header
   unfolding AnswersApply
   below e =
       ltb-true n (due header)
-      (sym (or-false (ltb n (due header))) ∙ given-applies (readLines u header n) 10 (omega arith) (sym (answers-apply u header n) ∙ e))
+      (sym (or-false (ltb n (due header))) ∙ given-applies (readLines u header n) 10 (omega arith) (sym (answers-apply u p header n) ∙ e))
 
   above : answer ≡ 11 → due header + 1 < n
   unfolding AnswersApply
   above e =
       ltb-true (due header + 1) n
-      (sym (or-false (ltb (due header + 1) n)) ∙ given-applies (readLines u header n) 11 (omega arith) (sym (answers-apply u header n) ∙ e))
+      (sym (or-false (ltb (due header + 1) n)) ∙ given-applies (readLines u header n) 11 (omega arith) (sym (answers-apply u p header n) ∙ e))
 
-  replies : Reply answer (code header) (due header) n bytes (replyOf (readStream u p answer (code header)) n)
-  unfolding readStream checked answersData
+  -- what is sent, where data are: the check over the header as it came is that over C0h, code, C1h
+  data-sent : answersData answer ≡ true → sent ≡ bytes ++ (checkOf (code header) bytes ∷ [])
+  unfolding readStream checked requestData
+  data-sent y =
+      let s = sends u p header n y in
+      rw (y, s .asks) (ap (λ (h : List ℕ). bytes ++ (pec (h ++ bytes) ∷ [])) (s .spelled))
+
+  -- and so what is read of it
+  of-data : (k : ℕ) → answer ≡ k → answersData k ≡ true → replyOf sent n ≡ replyOf (bytes ++ (checkOf (code header) bytes ∷ [])) n
+  of-data k e y = ap (λ (s : List ℕ). replyOf s n) (data-sent (ap answersData e ∙ y))
+
+  replies : Reply answer (code header) (due header) n bytes (replyOf sent n)
+  unfolding readStream answersData
   replies =
       let as-due = data-due u p (code header) (byte-lt header byte 1) in
       let check = checkOf (code header) bytes in
       record {
-        clocked = reply-length (readStream u p answer (code header)) n;
+        clocked = reply-length sent n;
         as-table = as-due;
-        plain = λ e m. rw e (first bytes check n (omega arith) ∙ take-all n bytes (omega arith));
-        checked = λ e m. rw e (whole bytes check n (omega arith));
-        short = λ e. rw e (let h = below e in first bytes check n (omega arith));
+        plain = λ e m. of-data 0 e refl ∙ first bytes check n (omega arith) ∙ take-all n bytes (omega arith);
+        checked = λ e m. of-data 0 e refl ∙ whole bytes check n (omega arith);
+        short = λ e. of-data 10 e refl ∙ (let h = below e in first bytes check n (omega arith));
         long = λ e.
             let h = above e in
-            rw e (all bytes check n (omega arith) ∙ ap (λ (k : ℕ). bytes ++ (check ∷ replicate (n - (k + 1)) 255)) as-due);
+            of-data 11 e refl ∙ all bytes check n (omega arith) ∙ ap (λ (k : ℕ). bytes ++ (check ∷ replicate (n - (k + 1)) 255)) as-due;
         nothing = λ e. rw (none-sent (eqb answer 0) (eqb answer 10) (eqb answer 11) e) (take-all n (replicate n 255) (rw (length-replicate) (le-refl n)));
       }
 

@@ -9,6 +9,7 @@ use lib.ListN.{length, getD}
 use lib.Dec.{ltb, eqb}
 use Rattle.command.specs.Table.{lookup}
 use Rattle.command.specs.Paged.{paged}
+use Rattle.page.specs.declared.Page.{Page}
 use Rattle.unpaged.specs.declared.Unpaged.{Unpaged}
 use Rattle.unpaged.specs.Unpaged.{everyPage}
 use Rattle.unpaged.specs.Applies.{Line, lowest}
@@ -37,4 +38,4 @@ readLines u header n =
     ∷ []
 
 unfoldable pub AnswersApply : Type 0
-AnswersApply = (u : Unpaged) (header : List ℕ) (n : ℕ) → readAnswer u header n ≡ lowest (readLines u header n)
+AnswersApply = (u : Unpaged) (p : Page) (header : List ℕ) (n : ℕ) → readAnswer u p header n ≡ lowest (readLines u header n)

@@ -13,6 +13,8 @@ use Rattle.command.specs.declared.meaning.Command.the-variants.{SelectPage, Ope
 use Rattle.page.specs.declared.Page.{Page}
 use Rattle.page.specs.Status.{statusByte, statusHigh, reading}
 use Rattle.unpaged.specs.declared.Unpaged.{Unpaged}
+use Rattle.reads.specs.declared.request.Request.{Request}
+use Rattle.reads.specs.declared.request.Request.the-variants.{Refused, Plain}
 use Rattle.reads.specs.Answers.{answersData}
 
 -- low byte first (data sheet 2.4)
@@ -43,10 +45,15 @@ readData u p (Reading q) = wordBytes (reading p q)
 readData u p Revision = 0x22 ∷ []
 readData u p Absent = []
 
--- data, then the packet check over header and data (data sheet 2.6)
-unfoldable pub checked : ℕ → List ℕ → List ℕ
-checked code bytes = bytes ++ (pec (0xC0 ∷ code ∷ 0xC1 ∷ bytes) ∷ [])
+-- the data of what a read asks for
+unfoldable pub requestData : Unpaged → Page → Request → List ℕ
+requestData u p (Refused a) = []
+requestData u p (Plain code k) = readData u p (commandOf code)
+
+-- data, then the packet check over the header as it came and the data (data sheet 2.6)
+unfoldable pub checked : List ℕ → List ℕ → List ℕ
+checked header bytes = bytes ++ (pec (header ++ bytes) ∷ [])
 
 -- what the device sends; a reply is the beginning of it, filled up with FFh (data sheet 2.9)
-unfoldable pub readStream : Unpaged → Page → ℕ → ℕ → List ℕ
-readStream u p answer code = cond (answersData answer) (checked code (readData u p (commandOf code))) []
+unfoldable pub readStream : Unpaged → Page → ℕ → Request → List ℕ → List ℕ
+readStream u p answer request header = cond (answersData answer) (checked header (requestData u p request)) []

@@ -1,3 +1,4 @@
+pub mod Request
 pub mod Answers
 pub mod Reply
 pub mod Data

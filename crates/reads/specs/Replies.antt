@@ -12,6 +12,7 @@ use Rattle.page.specs.declared.Page.{Page}
 use Rattle.unpaged.specs.declared.Unpaged.{Unpaged}
 use Rattle.unpaged.specs.Applies.{isIn}
 use Rattle.reads.specs.Answers.{readAnswer}
+use Rattle.reads.specs.Request.{requestOf}
 use Rattle.reads.specs.Data.{readData, readStream}
 use Rattle.reads.specs.Reply.{replyOf}
 use Rattle.reads.specs.Applies.{code, due}
@@ -38,5 +39,5 @@ pub record Reply (answer code k n : ℕ) (bytes reply : List ℕ) : Type 0 where
 unfoldable pub RepliesFollow : Type 0
 RepliesFollow =
     (u : Unpaged) (p : Page) (header : List ℕ) (n : ℕ) → Bytes header
-    → Reply (readAnswer u header n) (code header) (due header) n (readData u p (commandOf (code header)))
-    (replyOf (readStream u p (readAnswer u header n) (code header)) n)
+    → Reply (readAnswer u p header n) (code header) (due header) n (readData u p (commandOf (code header)))
+    (replyOf (readStream u p (readAnswer u p header n) (requestOf header) header) n)

@@ -1,21 +1,22 @@
-// The answer of a read, from the unpaged part, the header and the number of bytes clocked.
+// The answer of a read, from the unpaged part, the page shown, what is asked for and the number of bytes clocked.
 ghost use mathlib.Core.Path.{_≡_};
-ghost use Rattle.reads.specs.Answers.{entryAnswer, headerAnswer, readAnswer, answersData};
-use command::Entry;
+ghost use mathlib.Core.Bool.{_&&_};
+ghost use Rattle.command.specs.Paged.{paged};
+ghost use Rattle.unpaged.specs.Unpaged.{everyPage};
+ghost use Rattle.reads.specs.Answers.{dataAnswer, requestAnswer, readAnswer, answersData};
+use super::request;
+use super::request::Request;
+use page::Page;
 use unpaged::Unpaged;
-use writes::bytes::byte_at;
 
-// A read of n bytes of a code whose table entry is e. A page cannot be read where every page is selected.
-fn entry_answer(everywhere: bool, e: Entry, n: usize) -> u8
-    ensures { λ r. ⌜ r ≡ entryAnswer everywhere e n ⌝ }
+// A request with `due` data bytes, where n are clocked.
+fn data_answer(refused: bool, due: u8, n: usize) -> u8
+    ensures { λ r. ⌜ r ≡ dataAnswer refused due n ⌝ }
 {
-    if !e.read {
-        return answer::UNSUPPORTED_COMMAND;
-    }
-    if everywhere {
+    if refused {
         return answer::INVALID_DATA;
     }
-    let length = e.length as usize;
+    let length = due as usize;
     if n < length {
         return answer::READ_TOO_SHORT;
     }
@@ -25,33 +26,30 @@ fn entry_answer(everywhere: bool, e: Entry, n: usize) -> u8
     answer::DONE
 }
 
-// A read addressed to the device, with a whole header.
-fn header_answer(u: Unpaged, header: &[u8], n: usize) -> u8
-    ensures { λ r. ⌜ r ≡ headerAnswer u (now (header .entry)) n ⌝ }
+// A code that is read. A page cannot be read where every page is selected.
+fn plain_answer(u: Unpaged, code: u8, due: u8, n: usize) -> u8
+    ensures { λ r. ⌜ r ≡ dataAnswer (everyPage u && paged code) due n ⌝ }
 {
-    let code = byte_at(header, 1);
-    let e = command::lookup(code);
     let everywhere = (u.page == 0xFF) & command::paged::is_paged(code);
-    entry_answer(everywhere, e, n)
+    data_answer(everywhere, due, n)
 }
 
-// The answer of a read: its header is the write address, a code and the read address; n bytes are clocked.
-pub fn read_answer(u: Unpaged, header: &[u8], n: usize) -> u8
-    ensures { λ r. ⌜ r ≡ readAnswer u (now (header .entry)) n ⌝ }
+// The answer to a request, on the page shown, with n bytes clocked.
+pub fn request_answer(u: Unpaged, p: Page, request: Request, n: usize) -> u8
+    ensures { λ r. ⌜ r ≡ requestAnswer u p request n ⌝ }
 {
-    if header.len() == 0 {
-        return answer::MALFORMED;
+    match request {
+        Request::Refused(answer) => answer,
+        Request::Plain(code, due) => plain_answer(u, code, due, n),
     }
-    if header[0] != 0xC0 {
-        return answer::WRONG_ADDRESS;
-    }
-    if header.len() != 3 {
-        return answer::MALFORMED;
-    }
-    if header[2] != 0xC1 {
-        return answer::MALFORMED;
-    }
-    header_answer(u, header, n)
+}
+
+// The answer of a read with this header.
+pub fn read_answer(u: Unpaged, p: Page, header: &[u8], n: usize) -> u8
+    ensures { λ r. ⌜ r ≡ readAnswer u p (now (header .entry)) n ⌝ }
+{
+    let request = request::request_of(header);
+    request_answer(u, p, request, n)
 }
 
 // Whether an answer comes with data: done, too short and too long do.

@@ -7,9 +7,10 @@ ghost use Rattle.account.specs.Account.{einBytes};
 ghost use Rattle.command.specs.Meaning.{commandOf};
 ghost use Rattle.page.specs.Status.{statusByte, statusHigh, reading};
 ghost use Rattle.reads.specs.Reply.{stream, streamOf};
-ghost use Rattle.reads.specs.Data.{wordBytes, statusRegister, readData, checked, readStream};
+ghost use Rattle.reads.specs.Data.{wordBytes, statusRegister, readData, requestData, checked, readStream};
 use super::answers;
 use super::reply::Stream;
+use super::request::Request;
 use account::Account;
 use command::Command;
 use page::Page;
@@ -130,36 +131,52 @@ pub fn read_data(u: Unpaged, p: Page, command: Command) -> Stream
     }
 }
 
-// The data followed by the packet check over header and data.
-fn with_check(code: u8, body: Stream) -> Stream
+fn plain_data(u: Unpaged, p: Page, code: u8) -> Stream
+    ensures { λ r. ⌜ (r ≡ stream (readData u p (commandOf code))) × (r .length < 8) ⌝ }
+{
+    let command = command::command_of(code);
+    read_data(u, p, command)
+}
+
+// The data of what is asked for.
+fn request_data(u: Unpaged, p: Page, request: Request) -> Stream
+    ensures { λ r. ⌜ (r ≡ stream (requestData u p request)) × (r .length < 8) ⌝ }
+{
+    match request {
+        Request::Refused(_) => none(),
+        Request::Plain(code, _) => plain_data(u, p, code),
+    }
+}
+
+// The data followed by the packet check over the header, as it came, and the data.
+fn with_check(header: &[u8], body: Stream) -> Stream
     requires { ⌜ (body ≡ stream (streamOf body)) × (body .length < 8) ⌝ }
-    ensures { λ r. ⌜ r ≡ stream (checked code (streamOf body)) ⌝ }
+    ensures { λ r. ⌜ r ≡ stream (checked (now (header .entry)) (streamOf body)) ⌝ }
 {
     let n = body.length as usize;
     let bytes = body.bytes;
-    let header = pec::pec_byte(pec::pec_byte(pec::pec_byte(0, 0xC0), code), 0xC1);
-    let check = pec::pec_from(header, &bytes[..n]);
+    let start = pec::pec(header);
+    let check = pec::pec_from(start, &bytes[..n]);
     let mut f = body;
     f.bytes[n] = check;
     f.length = body.length + 1;
     f
 }
 
-// Data and packet check of a code.
-fn data_stream(u: Unpaged, p: Page, code: u8) -> Stream
-    ensures { λ r. ⌜ r ≡ stream (checked code (readData u p (commandOf code))) ⌝ }
+// Data and packet check of what a header asks for.
+fn data_stream(u: Unpaged, p: Page, request: Request, header: &[u8]) -> Stream
+    ensures { λ r. ⌜ r ≡ stream (checked (now (header .entry)) (requestData u p request)) ⌝ }
 {
-    let command = command::command_of(code);
-    let body = read_data(u, p, command);
-    with_check(code, body)
+    let body = request_data(u, p, request);
+    with_check(header, body)
 }
 
-// What an answer sends of a code: data and packet check, or nothing.
-pub fn read_stream(u: Unpaged, p: Page, answer: u8, code: u8) -> Stream
-    ensures { λ r. ⌜ r ≡ stream (readStream u p answer code) ⌝ }
+// What an answer sends: data and packet check, or nothing.
+pub fn read_stream(u: Unpaged, p: Page, answer: u8, request: Request, header: &[u8]) -> Stream
+    ensures { λ r. ⌜ r ≡ stream (readStream u p answer request (now (header .entry))) ⌝ }
 {
     if answers::answers_data(answer) {
-        return data_stream(u, p, code);
+        return data_stream(u, p, request, header);
     }
     none()
 }

@@ -5,3 +5,4 @@ pub mod Lent
 pub mod Calls
 pub mod Paged
 pub mod Found
+pub mod Bounded

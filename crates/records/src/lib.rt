@@ -3,16 +3,16 @@
 ghost use mathlib.Core.Path.{_≡_};
 ghost use mathlib.Core.Bool.{_&&_};
 ghost use mathlib.Core.List.{map};
-ghost use lib.ListN.{length, getD, set, replicate};
+ghost use lib.ListN.{length, replicate};
 ghost use Rattle.laws.specs.Lists.{anyOf};
 ghost use Rattle.page.specs.Page.{powerOnPage};
 ghost use Rattle.page.specs.Causes.{ticked};
 ghost use Rattle.page.specs.Status.{anyStatus};
-ghost use Rattle.records.specs.Records.{counted, surveyed};
+ghost use Rattle.records.specs.Records.{counted, surveyed, taken, putBack};
 use page::Page;
 
 // What a call has to know of all records before it begins: how many there are, 97 standing for every number above 96, and
-// whether each is valid.
+// whether each is valid. More than 96 are not looked at, and do not count as valid.
 pub struct Seen {
     pub number: u8,
     pub valid: bool,
@@ -30,39 +30,42 @@ fn counted(n: usize, valid: bool) -> Seen
     }
     Seen {
         number: 97,
-        valid: valid,
+        valid: false,
     }
 }
 
 pub fn survey(pages: &[Page]) -> Seen
     ensures { λ r. ⌜ r ≡ surveyed (now (pages .entry)) ⌝ }
 {
+    let n = pages.len();
     let mut valid = true;
     let mut i: usize = 0;
-    while i < pages.len() {
+    while (i < n) & (n < 97) {
         valid = valid & page::settings::page_valid(pages[i]);
         i = i + 1;
     }
-    counted(i, valid)
+    counted(n, valid)
 }
 
-// Record i; past the end a page as power-on leaves it.
+// Record i; past the end a page as power-on leaves it, and so of more than 96 records, none of which is read.
 pub fn take(pages: &[Page], i: u8) -> Page
-    ensures { λ r. ⌜ r ≡ getD (now (pages .entry)) i powerOnPage ⌝ }
+    ensures { λ r. ⌜ r ≡ taken (now (pages .entry)) i ⌝ }
 {
     let k = i as usize;
-    if k < pages.len() {
+    let n = pages.len();
+    if (k < n) & (n < 97) {
         return pages[k];
     }
     page::power_on_page()
 }
 
-// Sets record i; past the end it sets none.
+// Sets record i; past the end, and of more than 96 records, it sets none.
 pub fn put(pages: &mut [Page], i: u8, p: Page)
-    ensures { λ _. ⌜ now (pages .exit) ≡ set (now (pages .entry)) i p ⌝ }
+    ensures { λ _. ⌜ now (pages .exit) ≡ putBack (now (pages .entry)) i p ⌝ }
 {
     let k = i as usize;
-    if k < pages.len() {
+    let n = pages.len();
+    if (k < n) & (n < 97) {
         pages[k] = p;
     }
 }

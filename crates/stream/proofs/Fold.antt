@@ -444,7 +444,7 @@ module _ (s : State) (v : partValid (s .part) ≡ true) where
 
         few : length said ≤ 8
         unfolding said sent
-        few = stream-length _ _ _ _
+        few = stream-length _ _ _ _ _
 
         clocked-all : State
         clocked-all = feed asked (clocking k)

@@ -1,7 +1,7 @@
 -- The first eleven bytes of a transaction decide, and of the number of bytes clocked whether it passes eight.
 -- Assumes nothing.
 use Prim.Native.Nat.{ℕ, _+_, _-_, _<_, _≤_, min}
-use mathlib.Core.Path.{_≡_, refl, _∙_}
+use mathlib.Core.Path.{_≡_, refl, sym, _∙_}
 use mathlib.Core.Bool.{Bool, true, and-eq-true-iff}
 use mathlib.Core.List.{List, [], _∷_}
 use native.Mathlib.Omega.{arith}
@@ -10,18 +10,23 @@ use lib.Seq.{take-all, getD-take}
 use lib.Dec.{ltb, leb, eqb}
 use borrow.Author.Tests.{ltb-true, ltb-false, lt-ltb, le-ltb, leb-true, ne-eqb}
 use Rattle.laws.specs.Lists.{allOf}
-use Rattle.laws.proofs.Branches.{either, cond-apply, cond-same}
+use Rattle.laws.proofs.Branches.{either}
 use Rattle.command.specs.declared.table.Row.{Row}
-use Rattle.command.specs.declared.table.Entry.{Entry}
+use Rattle.page.specs.declared.Page.{Page}
 use Rattle.command.specs.Table.{table, rowIn, entryOf, lookup}
 use Rattle.bus.specs.Ack.{orderly, roomBehind, ackedFirst, ackedSecond}
 use Rattle.unpaged.specs.declared.Unpaged.{Unpaged}
 use Rattle.writes.specs.declared.asked.Write.{Write}
 use Rattle.writes.specs.Asked.{asked}
 use Rattle.writes.specs.Answers.{lengthAnswer, codeAnswer, addressedAnswer, writeAnswer}
-use Rattle.reads.specs.Answers.{entryAnswer, headerAnswer, readAnswer, answersData}
+use Rattle.reads.specs.declared.request.Request.{Request}
+use Rattle.reads.specs.declared.request.Request.the-variants.{Refused, Plain}
+use Rattle.reads.specs.Request.{plainOf, addressedOf, requestOf, dueOf}
+use Rattle.reads.specs.Answers.{dataAnswer, requestAnswer, readAnswer, answersData}
 use Rattle.reads.specs.Data.{readStream}
+use Rattle.reads.proofs.Requests.{data-any}
 use Rattle.device.specs.declared.Device.{Device}
+use Rattle.device.specs.Device.{deviceValid, pageShown}
 use Rattle.device.specs.Step.{read, answerOf, answered, effect, left, sent, step}
 use Rattle.stream.specs.Claims.{WriteByEleven, ReadByEleven}
 
@@ -83,9 +88,9 @@ module _ (s : List ℕ) (long : 11 < length s) where
         too-long n u s (lookup (getD s 1 0) .length) (getD s 1 0) (asked s) (omega arith),
       )
 
-  long-read : (u : Unpaged) (n : ℕ) → readAnswer u (take 11 s) n ≡ readAnswer u s n
-  unfolding readAnswer
-  long-read u n =
+  long-request : requestOf (take 11 s) ≡ requestOf s
+  unfolding requestOf addressedOf
+  long-request =
       rw (
         cut,
         at s 0 (omega arith),
@@ -123,26 +128,48 @@ module _ (s : List ℕ) (long : 11 < length s) where
 write-cut : (n : ℕ) (u : Unpaged) (s : List ℕ) → writeAnswer n u (take 11 s) ≡ writeAnswer n u s
 write-cut n u s = by-length (λ (t : List ℕ). writeAnswer n u t ≡ writeAnswer n u s) s refl (λ h. long-write s h n u)
 
-read-cut : (u : Unpaged) (h : List ℕ) (n : ℕ) → readAnswer u (take 11 h) n ≡ readAnswer u h n
-read-cut u h n = by-length (λ (t : List ℕ). readAnswer u t n ≡ readAnswer u h n) h refl (λ l. long-read h l u n)
+request-cut : (h : List ℕ) → requestOf (take 11 h) ≡ requestOf h
+request-cut h = by-length (λ (t : List ℕ). requestOf t ≡ requestOf h) h refl (λ l. long-request h l)
 
-many : (every : Bool) (e : Entry) (n : ℕ) → e .length ≤ 7 → entryAnswer every e (min n 9) ≡ entryAnswer every e n
-unfolding entryAnswer
-many every e n few =
+read-cut : (u : Unpaged) (p : Page) (h : List ℕ) (n : ℕ) → readAnswer u p (take 11 h) n ≡ readAnswer u p h n
+unfolding readAnswer
+read-cut u p h n = rw (request-cut h)
+
+-- no request has more than seven data bytes
+few-due : (h : List ℕ) → dueOf (requestOf h) ≤ 7
+unfolding requestOf addressedOf plainOf dueOf
+few-due h =
+    either (eqb (length h) 0) (λ a. rw a (omega arith))
+    (λ a. either (eqb (getD h 0 0) 0xC0)
+    (λ b. either (eqb (length h) 3)
+    (λ c. either (eqb (getD h 2 0) 0xC1)
+    (λ d. either (lookup (getD h 1 0) .read) (λ e. rw (a, b, c, d, e) (at-most-seven (getD h 1 0))) (λ e. rw (a, b, c, d, e) (omega arith)))
+    (λ d. rw (a, b, c, d) (omega arith)))
+    (λ c. rw (a, b, c) (omega arith)))
+    (λ b. rw (a, b) (omega arith)))
+
+many-data : (refused : Bool) (k n : ℕ) → k ≤ 7 → dataAnswer refused k (min n 9) ≡ dataAnswer refused k n
+unfolding dataAnswer
+many-data refused k n few =
     either (ltb n 10)
     (λ y. let h = ltb-true n 10 y in let m : min n 9 ≡ n = omega arith in rw m)
     (λ y. let h = ltb-false n 10 y in let m : min n 9 ≡ 9 = omega arith in
     rw (
       m,
-      le-ltb n (e .length) (omega arith),
-      le-ltb 9 (e .length) (omega arith),
-      lt-ltb (e .length + 1) n (omega arith),
-      lt-ltb (e .length + 1) 9 (omega arith),
+      le-ltb n k (omega arith),
+      le-ltb 9 k (omega arith),
+      lt-ltb (k + 1) n (omega arith),
+      lt-ltb (k + 1) 9 (omega arith),
     ))
 
-many-clocked : (u : Unpaged) (header : List ℕ) (n : ℕ) → readAnswer u header (min n 9) ≡ readAnswer u header n
-unfolding readAnswer headerAnswer
-many-clocked u header n = rw (many _ (lookup (getD header 1 0)) n (at-most-seven (getD header 1 0)))
+many : (u : Unpaged) (p : Page) (r : Request) (n : ℕ) → dueOf r ≤ 7 → requestAnswer u p r (min n 9) ≡ requestAnswer u p r n
+unfolding requestAnswer dueOf
+many u p (Refused a) n few = refl
+many u p (Plain code k) n few = many-data _ k n few
+
+many-clocked : (u : Unpaged) (p : Page) (header : List ℕ) (n : ℕ) → readAnswer u p header (min n 9) ≡ readAnswer u p header n
+unfolding readAnswer
+many-clocked u p header n = many u p (requestOf header) n (few-due header)
 
 -- ---- the whole device's step
 
@@ -152,7 +179,7 @@ write-by-eleven d s = rw (write-cut (length (d .pages)) (d .unpaged) s, asked-cu
 
 pub read-by-eleven : ReadByEleven
 unfolding ReadByEleven step left effect answered answerOf
-read-by-eleven d header n = rw (read-cut (d .unpaged) header (min n 9) ∙ many-clocked (d .unpaged) header n)
+read-by-eleven d header n = rw (read-cut (d .unpaged) (pageShown d) header (min n 9) ∙ many-clocked (d .unpaged) (pageShown d) header n)
 
 -- ---- what is sent does not depend on the number of bytes clocked
 
@@ -160,17 +187,29 @@ read-by-eleven d header n = rw (read-cut (d .unpaged) header (min n 9) ∙ many-
 abbrev pub readSent : Device → List ℕ → ℕ → List ℕ
 readSent d h n = sent d (read h n) (answered d (read h n))
 
-pub sent-cut : (d : Device) (h : List ℕ) (n : ℕ) → readSent d (take 11 h) n ≡ readSent d h n
-unfolding sent answered answerOf
-sent-cut d h n = rw (read-cut (d .unpaged) h n, at h 1 (omega arith))
+-- nothing behind a header of more than three bytes
+long-silent : (d : Device) (h : List ℕ) (n : ℕ) → 3 < length h → readSent d h n ≡ []
+unfolding sent answered answerOf readAnswer requestOf addressedOf requestAnswer readStream answersData
+long-silent d h n l =
+    let some = ne-eqb (length h) 0 (λ e. omega arith) in
+    let long = ne-eqb (length h) 3 (λ e. omega arith) in
+    either (deviceValid d)
+    (λ v. either (eqb (getD h 0 0) 0xC0) (λ o. rw (v, some, o, long)) (λ o. rw (v, some, o)))
+    (λ v. rw v)
 
-data-any : (d : Device) (h : List ℕ) (n m : ℕ) → answersData (answered d (read h n)) ≡ answersData (answered d (read h m))
-unfolding answered answerOf readAnswer headerAnswer entryAnswer answersData
-data-any d h n m = simp (cond-apply answersData, cond-same)
+pub sent-cut : (d : Device) (h : List ℕ) (n : ℕ) → readSent d (take 11 h) n ≡ readSent d h n
+sent-cut d h n =
+    by-length (λ (t : List ℕ). readSent d t n ≡ readSent d h n) h refl
+    (λ l. let c = cut h l in long-silent d (take 11 h) n (omega arith) ∙ sym (long-silent d h n (omega arith)))
+
+answers-any : (d : Device) (h : List ℕ) (n m : ℕ) → answersData (answered d (read h n)) ≡ answersData (answered d (read h m))
+unfolding answered answerOf readAnswer
+answers-any d h n m =
+    either (deviceValid d) (λ v. rw v (data-any (d .unpaged) (pageShown d) (requestOf h) n m)) (λ v. rw v)
 
 pub sent-any : (d : Device) (h : List ℕ) (n m : ℕ) → readSent d h n ≡ readSent d h m
 unfolding sent readStream
-sent-any d h n m = rw (data-any d h n m)
+sent-any d h n m = rw (answers-any d h n m)
 
 -- ---- ACK
 

@@ -5,7 +5,6 @@
 use Prim.Native.Nat.{ℕ}
 use mathlib.Core.Bool.{Bool, true, cond, _&&_}
 use mathlib.Core.List.{List, [], _∷_, map}
-use lib.ListN.{getD}
 use lib.Dec.{eqb}
 use Rattle.bus.specs.declared.Part.{Part}
 use Rattle.bus.specs.Part.{writing, turning, reading, partValid, heard, answering}
@@ -13,6 +12,7 @@ use Rattle.bus.specs.Automaton.{Event, start, byte, again, clock, stop, byted, 
 use Rattle.bus.specs.Ack.{ackOf}
 use Rattle.page.specs.declared.Page.{Page}
 use Rattle.unpaged.specs.declared.Unpaged.{Unpaged}
+use Rattle.reads.specs.Request.{requestOf}
 use Rattle.reads.specs.Answers.{readAnswer}
 use Rattle.reads.specs.Data.{readStream}
 use Rattle.reads.specs.Reply.{replyOf}
@@ -39,9 +39,9 @@ eightValid = record { number = 8; valid = true }
 
 -- ---- the five events
 
--- the first eight bytes of what a read sends, of the selected page p of a valid state
+-- the first eight bytes of what a read sends, of a valid state that shows the page p
 unfoldable pub pageReply : Unpaged → Page → List ℕ → List ℕ
-pageReply u p header = replyOf (readStream u p (readAnswer u header 8) (getD header 1 0)) 8
+pageReply u p header = replyOf (readStream u p (readAnswer u p header 8) (requestOf header) header) 8
 
 -- what is kept after a byte: the second address byte makes the reply, the whole of it, from the state as it is then
 unfoldable pub byteTaken : Device → Part → ℕ → Part

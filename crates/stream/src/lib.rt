@@ -1,23 +1,16 @@
 // The streaming device's questions to the rules of whole transactions, by value: the reply at the second address byte, and at STOP
 // what the transaction asks for and its answer. All else of a transaction is in crate bus.
 ghost use mathlib.Core.Path.{_≡_};
-ghost use mathlib.Core.Bool.{true};
-ghost use mathlib.Core.List.{List};
-ghost use Rattle.page.specs.declared.Page.{Page as PageRecord};
 ghost use Rattle.writes.specs.Asked.{asked};
+ghost use Rattle.writes.specs.Answers.{writeAnswer};
 ghost use Rattle.reads.specs.Answers.{readAnswer};
 ghost use Rattle.bus.specs.Part.{heard};
-ghost use Rattle.device.specs.Device.{device};
-ghost use Rattle.device.specs.Step.{write, answered};
-ghost use Rattle.records.specs.Records.{surveyed};
-ghost use Rattle.lent.specs.Lent.{writeTurn};
 ghost use Rattle.stream.specs.Stream.{pageReply, eightValid};
 use bus::Part;
-use lent::turns::Turn;
 use page::Page;
 use records::Seen;
 use unpaged::Unpaged;
-use writes::Write;
+use writes::answers::Judged;
 
 // What a call finds that comes to a valid state: eight pages, each of them valid.
 pub fn eight_valid() -> Seen
@@ -33,39 +26,29 @@ pub fn eight_valid() -> Seen
 pub fn reply(u: Unpaged, p: Page, header: &[u8]) -> [u8; 8]
     ensures { λ r. ⌜ r ≡ pageReply u p (now (header .entry)) ⌝ }
 {
-    let answer = reads::answers::read_answer(u, header, 8);
-    let code = writes::bytes::byte_at(header, 1);
-    let stream = reads::data::read_stream(u, p, answer, code);
+    let request = reads::request::request_of(header);
+    let answer = reads::answers::request_answer(u, p, request, 8);
+    let stream = reads::data::read_stream(u, p, answer, request, header);
     let mut bytes = [255u8; 8];
     reads::reply::send(&mut bytes, stream);
     bytes
 }
 
-// What a write asks for.
-pub fn asked_by(kept: Part) -> Write
-    ensures { λ r. ⌜ r ≡ asked (heard kept) ⌝ }
+// The answer at the end of a write, of a valid state, and what the write asks for where it is accepted.
+pub fn judged(u: Unpaged, kept: Part) -> Judged
+    ensures { λ r. ⌜ (r .answer ≡ writeAnswer 8 u (heard kept)) × (r .answer ≡ 0 → r .write ≡ asked (heard kept)) ⌝ }
 {
     let n = bus::kept(kept);
     let bytes = kept.bytes;
-    writes::asked::asked(&bytes[..n])
+    writes::answers::judge(8, u, &bytes[..n])
 }
 
-// The end of a write that asks for w, on a valid state whose selected page is p.
-pub fn write_turn(u: Unpaged, p: Page, kept: Part, w: Write) -> Turn
-    ensures { λ r. ⌜ ((ps : List PageRecord) → eightValid ≡ surveyed ps → r ≡ writeTurn u p (answered (device u ps) (write (heard kept))) w) ⌝ }
-{
-    let n = bus::kept(kept);
-    let bytes = kept.bytes;
-    let seen = eight_valid();
-    lent::turns::write_turn(&bytes[..n], seen, u, p, w)
-}
-
-// The answer at the end of a read, of a valid state.
-pub fn read_answer(u: Unpaged, kept: Part) -> u8
-    ensures { λ r. ⌜ r ≡ readAnswer u (heard kept) (kept .clocked) ⌝ }
+// The answer at the end of a read, of a valid state that shows the page p.
+pub fn read_answer(u: Unpaged, p: Page, kept: Part) -> u8
+    ensures { λ r. ⌜ r ≡ readAnswer u p (heard kept) (kept .clocked) ⌝ }
 {
     let n = bus::kept(kept);
     let bytes = kept.bytes;
     let k = kept.clocked as usize;
-    reads::answers::read_answer(u, &bytes[..n], k)
+    reads::answers::read_answer(u, p, &bytes[..n], k)
 }

@@ -1,7 +1,7 @@
 // The device: power-on and the six calls, the whole state by value in and back; and which supplies are on.
 ghost use mathlib.Core.Path.{_≡_};
 ghost use lib.ListN.{length};
-ghost use Rattle.device.specs.Device.{powerOn};
+ghost use Rattle.device.specs.Device.{usual, powerOn};
 ghost use Rattle.device.specs.Step.{write, read, measure, sample, alertResponse, tick, step};
 ghost use Rattle.device.specs.Supply.{suppliesAt};
 use device::Device;
@@ -10,7 +10,7 @@ use device::Done;
 // The state that power-on leaves.
 #[no_mangle]
 pub extern "C" fn tongsorrel_power_on() -> Device
-    ensures { λ r. ⌜ r ≡ powerOn 8 ⌝ }
+    ensures { λ r. ⌜ r ≡ powerOn (usual 8) ⌝ }
 {
     device::power_on()
 }

@@ -14,15 +14,18 @@ use Rattle.reads.specs.Data.{readStream}
 use Rattle.reads.specs.Reply.{replyOf, alertStream}
 use Rattle.device.specs.declared.Device.{Device}
 use Rattle.device.specs.declared.Done.{Done}
-use Rattle.device.specs.Device.{deviceValid, supported, powerOn}
+use Rattle.device.specs.Device.{usual, supported, powerOn, deviceValid}
 use Rattle.device.specs.Step.{Call, write, read, measure, sample, alertResponse, tick, answered, sent, clocked, done, Result, step}
+use Rattle.device.proofs.PowerOn.{usual-granted}
 use Rattle.stream.specs.Stream.{State, state, stateValid, partNext, ended, beginAnswer, byteAck, byteSent, stopped, called, Turn, on, call, deviceNext, after, feed}
 use Rattle.stream.proofs.Fold.{fifteen-left}
-use Rattle.buffer.specs.Layout.{partForm, stateForm}
-use Rattle.buffer.specs.Buffer.{decode, encode, ready, partOf, deviceOf, stores, storeDevice, callFed, endStores, stopFed, partFed, takenOf, eventFed, powerFed, gives, refuses, eventGives, callGives, callSends, powerGives}
-use Rattle.buffer.proofs.Laws.{state-back}
-use Rattle.buffer.proofs.StoredPart.{idle-sized, part-length, part-decodes}
-use Rattle.buffer.proofs.Ending.{power-fits, whole-wide}
+use Rattle.layout.specs.Layout.{partForm, stateForm, size}
+use Rattle.layout.specs.State.{decode, encode, ready, partOf, deviceOf}
+use Rattle.layout.proofs.Laws.{state-back}
+use Rattle.layout.proofs.StoredPart.{idle-sized, part-length, part-decodes}
+use Rattle.layout.proofs.EightPages.{whole-wide}
+use Rattle.buffer.specs.Buffer.{stores, storeDevice, callFed, endStores, stopFed, partFed, takenOf, eventFed, powerFed, gives, refuses, eventGives, callGives, callSends, powerGives}
+use Rattle.buffer.proofs.Ending.{power-fits}
 use Rattle.traffic.specs.Runs.{NoFifteen}
 use Rattle.traffic.specs.Buffers.{Decodes, EventsDecode, CallsDecode, PowerDecodes, LengthStays, Given, GivesSame, LeftAlone, WrongLength, fedAll, BufferRuns, AlwaysReady}
 use Rattle.traffic.proofs.Runs.{no-fifteen}
@@ -38,17 +41,17 @@ decodes x h = (
   ap (λ (l : List ℕ). stateForm .get l 0) (sym (append-nil (stateForm .put x))) ∙ state-back .back x h [] [],
 )
 
-power-is : (s : List ℕ) → length s ≡ 466 → powerFed s ≡ encode (state idle (powerOn 8))
+power-is : (s : List ℕ) → length s ≡ size → powerFed s ≡ encode (state idle (powerOn (usual 8)))
 unfolding powerFed
-power-is s long = rw (eq-eqb (length s) 466 long)
+power-is s long = rw (eq-eqb (length s) size long)
 
 pub power-decodes : PowerDecodes
 unfolding PowerDecodes Decodes
-power-decodes s long = ap decode (power-is s long) ∙ decodes (state idle (powerOn 8)) power-fits .1
+power-decodes s long = ap decode (power-is s long) ∙ decodes (state idle (powerOn (usual 8))) power-fits .1
 
-power-length : (s : List ℕ) → length s ≡ 466 → length (powerFed s) ≡ 466
+power-length : (s : List ℕ) → length s ≡ size → length (powerFed s) ≡ size
 unfolding Decodes
-power-length s long = ap length (power-is s long) ∙ decodes (state idle (powerOn 8)) power-fits .0
+power-length s long = ap length (power-is s long) ∙ decodes (state idle (powerOn (usual 8))) power-fits .0
 
 -- ---- STOP, by the test for 15
 
@@ -62,16 +65,16 @@ stopped-not x n = rw n
 
 -- ---- a buffer that is ready
 
-module _ (s : List ℕ) (long : length s ≡ 466) where
+module _ (s : List ℕ) (long : length s ≡ size) where
   ready-is : ready s ≡ stateValid (decode s)
   unfolding ready
-  ready-is = rw (eq-eqb (length s) 466 long)
+  ready-is = rw (eq-eqb (length s) size long)
 
   part-taken : (e : Event) → decode (partFed s e) ≡ state (partNext (deviceOf s) (partOf s) e) (deviceOf s)
   unfolding partFed
   part-taken e = part-decodes s long (partNext (deviceOf s) (partOf s) e) (next-sized (partOf s) (held-sized s) (deviceOf s) e)
 
-  part-long : (e : Event) → length (partFed s e) ≡ 466
+  part-long : (e : Event) → length (partFed s e) ≡ size
   unfolding partFed
   part-long e = part-length s long (partNext (deviceOf s) (partOf s) e) (next-sized (partOf s) (held-sized s) (deviceOf s) e)
 
@@ -83,7 +86,7 @@ module _ (s : List ℕ) (long : length s ≡ 466) where
   unfolding emptied
   emptied-is = part-decodes s long idle idle-sized
 
-  emptied-long : length emptied ≡ 466
+  emptied-long : length emptied ≡ size
   unfolding emptied
   emptied-long = part-length s long idle idle-sized
 
@@ -98,7 +101,7 @@ module _ (s : List ℕ) (long : length s ≡ 466) where
       device-decodes (endStores (deviceOf s) (partOf s)) emptied emptied-long (ended (deviceOf s) (partOf s) .device) stop-storable
       ∙ ap (λ (x : State). state (x .part) (ended (deviceOf s) (partOf s) .device)) emptied-is
 
-  stop-long : length (stopFed s) ≡ 466
+  stop-long : length (stopFed s) ≡ size
   unfolding stopFed emptied
   stop-long =
       device-length (endStores (deviceOf s) (partOf s)) emptied emptied-long (ended (deviceOf s) (partOf s) .device) stop-storable
@@ -111,7 +114,7 @@ module _ (s : List ℕ) (long : length s ≡ 466) where
   taken v clock = rw v (part-taken clock)
   taken v stop = rw v (stop-taken ∙ ap (λ (r : Done). state idle (r .device)) (sym (stopped-valid (decode s) v)))
 
-  taken-long : (e : Event) → length (takenOf s e) ≡ 466
+  taken-long : (e : Event) → length (takenOf s e) ≡ size
   unfolding takenOf
   taken-long start = part-long start
   taken-long (byte b) = part-long (byte b)
@@ -123,7 +126,7 @@ module _ (s : List ℕ) (long : length s ≡ 466) where
   call-made c =
       device-decodes (stores (deviceOf s) c) s long (step (deviceOf s) c .done .device) (call-storable (deviceOf s) (held-fitting s) c)
 
-  call-long : (c : Call) → length (storeDevice (stores (deviceOf s) c) s (step (deviceOf s) c .done .device)) ≡ 466
+  call-long : (c : Call) → length (storeDevice (stores (deviceOf s) c) s (step (deviceOf s) c .done .device)) ≡ size
   call-long c =
       device-length (stores (deviceOf s) c) s long (step (deviceOf s) c .done .device) (call-storable (deviceOf s) (held-fitting s) c)
 
@@ -185,11 +188,11 @@ calls-decode s c long =
     (λ v. rw (ready-is s long, v) (call-made s long c ∙ ap (λ (r : Result). state (x .part) (r .done .device)) (sym (called-step x c v))))
     (λ n. rw (ready-is s long, n) (ap (λ (r : Result). state (x .part) (r .done .device)) (sym (call-stays x c n))))
 
-event-length : (s : List ℕ) (e : Event) → length s ≡ 466 → length (eventFed s e) ≡ 466
+event-length : (s : List ℕ) (e : Event) → length s ≡ size → length (eventFed s e) ≡ size
 unfolding eventFed
 event-length s e long = either (ready s) (λ y. rw y (taken-long s long e)) (λ n. rw n long)
 
-call-length : (s : List ℕ) (c : Call) → length s ≡ 466 → length (callFed s c) ≡ 466
+call-length : (s : List ℕ) (c : Call) → length s ≡ size → length (callFed s c) ≡ size
 unfolding callFed
 call-length s c long = either (ready s) (λ y. rw y (call-long s long c)) (λ n. rw n long)
 
@@ -199,7 +202,7 @@ length-stays s e c long = (event-length s e long, (call-length s c long, power-l
 
 -- ---- what is given
 
-given-ready : (s : List ℕ) → length s ≡ 466 → stateValid (decode s) ≡ true → Given s
+given-ready : (s : List ℕ) → length s ≡ size → stateValid (decode s) ≡ true → Given s
 unfolding eventGives gives refuses callGives callSends beginAnswer byteAck byteSent
 given-ready s long v =
     let x = decode s in
@@ -216,7 +219,7 @@ given-ready s long v =
       );
     }
 
-given-not : (s : List ℕ) → length s ≡ 466 → stateValid (decode s) ≡ false → Given s
+given-not : (s : List ℕ) → length s ≡ size → stateValid (decode s) ≡ false → Given s
 unfolding eventGives gives refuses callGives callSends beginAnswer byteAck byteSent
 given-not s long n =
     let x = decode s in
@@ -245,7 +248,7 @@ left-alone s e c n = (rw n, (rw n, (rw n, rw n)))
 
 pub wrong-length : WrongLength
 unfolding WrongLength ready powerFed powerGives
-wrong-length s h = let n = ne-eqb (length s) 466 h in (rw n, (rw n, rw n))
+wrong-length s h = let n = ne-eqb (length s) size h in (rw n, (rw n, rw n))
 
 -- ---- runs
 
@@ -257,7 +260,7 @@ buffer-runs s (on e ∷ ts) long =
 buffer-runs s (call c ∷ ts) long =
     buffer-runs (callFed s c) ts (call-length s c long) ∙ ap (λ (x : State). feed x ts) (calls-decode s c long)
 
-run-length : (s : List ℕ) (ts : List Turn) → length s ≡ 466 → length (fedAll s ts) ≡ 466
+run-length : (s : List ℕ) (ts : List Turn) → length s ≡ size → length (fedAll s ts) ≡ size
 unfolding fedAll
 run-length s [] long = long
 run-length s (on e ∷ ts) long = run-length (eventFed s e) ts (event-length s e long)
@@ -269,4 +272,4 @@ always-ready s ts long =
     let m = power-length s long in
     ready-is (fedAll (powerFed s) ts) (run-length (powerFed s) ts m)
     ∙ ap stateValid (buffer-runs (powerFed s) ts m ∙ ap (λ (x : State). feed x ts) (power-decodes s long))
-    ∙ no-fifteen 8 ts refl
+    ∙ no-fifteen (usual 8) ts (usual-granted 8)

@@ -21,19 +21,21 @@ use Rattle.writes.specs.Left.{pageLeft}
 use Rattle.device.specs.declared.Device.{Device}
 use Rattle.device.specs.Device.{pageOf}
 use Rattle.device.specs.Step.{Call, write, read, measure, sample, alertResponse, tick, answered, effect, refusedDevice, step}
+use Rattle.device.specs.Touches.{touches, PagesStay}
+use Rattle.device.proofs.Touches.{written-pages, measured-pages, ticked-pages, pages-stay}
 use Rattle.history.specs.Run.{next}
-use Rattle.history.specs.Pages.{touches, PagesStay}
-use Rattle.history.proofs.Outcomes.{done-next, refused-next, by-answer, written-pages, measured-pages, ticked-pages}
+use Rattle.history.proofs.Outcomes.{done-next, refused-next, by-answer}
 use Rattle.history.proofs.Runs.{same-length}
-use Rattle.history.proofs.PageAfter.{pages-stay}
 use Rattle.stream.specs.Stream.{byteTaken, partNext, ended}
-use Rattle.buffer.specs.Form.{getAll}
-use Rattle.buffer.specs.Layout.{pageForm}
-use Rattle.buffer.specs.Buffer.{partOf, deviceOf, stores, endStores}
-use Rattle.buffer.proofs.Shapes.{Shape, got-shape, settled-shape, measured-shape, ticked-shape, left-shape}
-use Rattle.buffer.proofs.Kept.{Sized, got-sized, byted-sized}
-use Rattle.buffer.proofs.Held.{part-of, pages-of}
-use Rattle.buffer.proofs.StoredPart.{idle-sized}
+use Rattle.layout.specs.Form.{getAll}
+use Rattle.layout.specs.Layout.{pageForm, pagesFrom}
+use Rattle.layout.specs.State.{partOf, deviceOf}
+use Rattle.layout.proofs.Shapes.{Shape, got-shape}
+use Rattle.layout.proofs.Kept.{Sized, got-sized, byted-sized}
+use Rattle.layout.proofs.Decoded.{part-of, pages-of}
+use Rattle.layout.proofs.StoredPart.{idle-sized}
+use Rattle.buffer.specs.Buffer.{stores, endStores}
+use Rattle.buffer.proofs.Rules.{settled-shape, measured-shape, ticked-shape, left-shape}
 use Rattle.buffer.proofs.Ending.{read-long}
 use Rattle.traffic.proofs.StoredDevice.{Shaped, Storable}
 
@@ -83,7 +85,7 @@ pub record Fitting (d : Device) : Type 0 where
   pub shaped : Shaped (d .pages)
 
 pub held-fitting : (s : List ℕ) → Fitting (deviceOf s)
-held-fitting s = record { number = rw (pages-of s); shaped = rw (pages-of s) (got-shaped 8 s 34) }
+held-fitting s = record { number = rw (pages-of s); shaped = rw (pages-of s) (got-shaped 8 s pagesFrom) }
 
 module _ (d : Device) (h : Fitting d) where
   effect-shaped : (c : Call) → Shaped (effect d c .pages)

@@ -28,13 +28,15 @@ use Rattle.bus.specs.Orders.{writeOrder, readOrder}
 use Rattle.unpaged.specs.Unpaged.{powerOnUnpaged, everyPage}
 use Rattle.writes.specs.Asked.{writeOf, asked, validSetting, validWrite}
 use Rattle.writes.specs.Answers.{permitted, dataAnswer, lengthAnswer, codeAnswer, addressedAnswer, writeAnswer}
-use Rattle.reads.specs.Answers.{entryAnswer, headerAnswer, readAnswer, answersData}
-use Rattle.reads.specs.Data.{wordBytes, readData, checked, readStream}
+use Rattle.reads.specs.Request.{plainOf, addressedOf, requestOf}
+use Rattle.reads.specs.Answers.{dataAnswer as clockedAnswer, requestAnswer, readAnswer, answersData}
+use Rattle.reads.specs.Data.{wordBytes, readData, requestData, checked, readStream}
 use Rattle.reads.specs.Reply.{replyOf}
 use Rattle.device.specs.declared.Device.{Device}
-use Rattle.device.specs.Device.{powerOn, deviceValid, supported, pageOf}
+use Rattle.device.specs.Device.{usual, supported, powerOn, deviceValid, pageShown}
 use Rattle.device.specs.Step.{write, sample, answerOf, answered, effect, sent, step}
 use Rattle.device.proofs.States.{answered-of}
+use Rattle.device.proofs.PowerOn.{usual-number, usual-granted, usual-device, powered}
 use Rattle.history.specs.Run.{next, answer, run, reached}
 use Rattle.history.specs.ReadBack.{Reads, writtenData, WriteThenRead}
 use Rattle.history.proofs.Outcomes.{done-next}
@@ -53,10 +55,10 @@ use Rattle.traffic.proofs.Runs.{part-of, feed-valid, no-fifteen, call-d
 
 valid-run : (ts : List Turn) → stateValid (reachedBy ts) ≡ true
 unfolding NoFifteen supported
-valid-run ts = no-fifteen 8 ts refl
+valid-run ts = no-fifteen (usual 8) ts (usual-granted 8)
 
 abbrev poweredOn : State
-poweredOn = state idle (powerOn 8)
+poweredOn = state idle (powerOn (usual 8))
 
 valid-start : stateValid poweredOn ≡ true
 unfolding feed
@@ -194,29 +196,31 @@ abbrev writing : ℕ → ℕ → List Turn
 writing low high = events (start ∷ (writeOrder (voutWrite low high) ++ (stop ∷ [])))
 
 module _ (low high : ℕ) where
-  accepted : answer (reached 8 []) (write (voutWrite low high)) ≡ 0
+  accepted : answer (reached (usual 8) []) (write (voutWrite low high)) ≡ 0
   unfolding
-      run step answered answerOf powerOn powerOnUnpaged writeAnswer addressedAnswer codeAnswer lengthAnswer dataAnswer permitted validWrite
+      run step answered answerOf powerOnUnpaged writeAnswer addressedAnswer codeAnswer lengthAnswer dataAnswer permitted validWrite
       validSetting asked writeOf commandOf settingOf lookup table entryOf feed
-  accepted = rw (device-of poweredOn valid-start)
+  accepted = rw (device-of poweredOn valid-start, usual-device 8)
 
-  written-device : reachedBy (writing low high) .device ≡ next (powerOn 8) (write (voutWrite low high))
+  written-device : reachedBy (writing low high) .device ≡ next (powerOn (usual 8)) (write (voutWrite low high))
   unfolding AsRun run
-  written-device = as-run (powerOn 8) (aWrite (voutWrite low high) ∷ [])
+  written-device = as-run (powerOn (usual 8)) (aWrite (voutWrite low high) ∷ [])
 
   reads-back : low < 256 → high < 256 → Reads (reachedBy (writing low high) .device) 0x21 (low ∷ high ∷ [])
-  unfolding WriteThenRead run powerOn powerOnUnpaged supported Bytes writtenData lookup table entryOf
+  unfolding WriteThenRead run supported Bytes writtenData lookup table entryOf
   reads-back l h =
       rw written-device
-      (write-then-read 8 [] (voutWrite low high) 3 refl (omega arith, (omega arith, (l, (h, tt)))) (omega arith) refl (omega arith) accepted)
+      (write-then-read (usual 8) [] (voutWrite low high) 3 (usual-granted 8) (omega arith, (omega arith, (l, (h, tt)))) (omega arith) refl
+      (rw (powered (usual 8) .selected, usual-number 8) (omega arith)) accepted)
 
 -- a reply of two bytes shows the word, and the check over it is sent behind it
 vout-sent : (d : Device) (low high : ℕ) → Reads d 0x21 (low ∷ high ∷ [])
     → readSent d (headerOf 0x21) 8 ≡ low ∷ high ∷ pec (headerOf 0x21 ++ (low ∷ high ∷ [])) ∷ []
-unfolding step sent readStream answersData checked readData commandOf settingOf lookup table entryOf
+unfolding
+    step sent readStream answersData checked requestOf addressedOf plainOf requestData readData commandOf settingOf lookup table entryOf
 vout-sent d low high r =
     let two = r .reply in
-    let w = pageOf d (d .unpaged .page) .command in
+    let w = pageShown d .command in
     let data-is : wordBytes w ≡ low ∷ high ∷ [] = rw (r .accepted) at two in
     sent-any d (headerOf 0x21) 8 2 ∙ rw (r .accepted)
     (ap (λ (x : List ℕ). x ++ (pec (headerOf 0x21 ++ x) ∷ [])) data-is)
@@ -273,8 +277,10 @@ module _ (x : ℕ) (small : x < 32768) where
       rw e at (all-booked n (suc m) (after s (call (sample x))) (one-booked m s b))
 
   none-booked : Booked x 0 poweredOn
-  unfolding powerOn powerOnUnpaged accountValid energyReading
-  none-booked = record { valid = valid-start; range = refl; energy = omega arith; count = omega arith }
+  unfolding accountValid energyReading
+  none-booked =
+      let e = powered (usual 8) .energy in
+      record { valid = valid-start; range = rw e; energy = rw e (omega arith); count = rw e (omega arith) }
 
   booked : (n : ℕ) → Booked x n (reachedBy (samples n x))
   booked n = let e : n + 0 ≡ n = omega arith in rw e at (all-booked n 0 poweredOn none-booked)
@@ -283,8 +289,8 @@ module _ (x : ℕ) (small : x < 32768) where
 ein-sent : (d : Device) → deviceValid d ≡ true
     → readSent d (headerOf 0x86) 8 ≡ einBytes (energyOf d) ++ (pec (headerOf 0x86 ++ einBytes (energyOf d)) ∷ [])
 unfolding
-    sent answered answerOf readAnswer headerAnswer entryAnswer paged readStream answersData checked readData commandOf
-    readingOf lookup table entryOf
+    sent answered answerOf readAnswer requestOf addressedOf plainOf requestAnswer clockedAnswer paged readStream answersData checked requestData readData
+    commandOf readingOf lookup table entryOf
 ein-sent d v = rw (v, and-false (everyPage (d .unpaged)))
 
 ein-reply : (ts : List Turn)

@@ -63,7 +63,7 @@ idle-valid = refl
 
 pub no-fifteen : NoFifteen
 unfolding NoFifteen ReachedValid run
-no-fifteen n ts h = feed-valid ts (state idle (powerOn n)) (whole (state idle (powerOn n)) idle-valid (reached-valid n [] h))
+no-fifteen x ts h = feed-valid ts (state idle (powerOn x)) (whole (state idle (powerOn x)) idle-valid (reached-valid x [] h))
 
 -- ---- runs of transactions
 
@@ -184,7 +184,7 @@ turned (t ∷ ts) s =
 
 pub reaches : Reaches
 unfolding Reaches
-reaches n ts = turned ts (state idle (powerOn n))
+reaches x ts = turned ts (state idle (powerOn x))
 
 -- ---- until STOP
 

@@ -12,14 +12,15 @@ use Rattle.unpaged.specs.declared.Unpaged.{Unpaged}
 use Rattle.device.specs.declared.Device.{Device}
 use Rattle.device.specs.Device.{device, pageOf}
 use Rattle.stream.specs.Stream.{state}
-use Rattle.buffer.specs.Form.{getAll}
-use Rattle.buffer.specs.Layout.{partForm, accountForm, unpagedForm, pageForm, pagesIn}
-use Rattle.buffer.specs.Buffer.{decode, partOf, deviceOf, storePages, storeDevice}
-use Rattle.buffer.proofs.Laws.{unpaged-back, page-back}
-use Rattle.buffer.proofs.Places.{Local, all-local, part-local, page-local, read-back, below, above, store-length, get-at}
-use Rattle.buffer.proofs.Shapes.{Shape, shape-fits}
-use Rattle.buffer.proofs.EightPages.{wide, unpaged-wide, part-wide}
-use Rattle.buffer.proofs.Held.{part-of, device-is, pages-of}
+use Rattle.layout.specs.Form.{getAll}
+use Rattle.layout.specs.Layout.{partForm, accountForm, unpagedForm, pageForm, pagesIn, pagesFrom, size, unpagedAt}
+use Rattle.layout.specs.State.{decode, partOf, deviceOf}
+use Rattle.layout.proofs.Laws.{unpaged-back, unpaged-fits, page-back}
+use Rattle.layout.proofs.Places.{Local, all-local, part-local, page-local, read-back, below, above, store-length, get-at}
+use Rattle.layout.proofs.Shapes.{Shape, shape-fits}
+use Rattle.layout.proofs.EightPages.{wide, unpaged-wide, part-wide}
+use Rattle.layout.proofs.Decoded.{part-of, device-is, pages-of}
+use Rattle.buffer.specs.Buffer.{storePages, storeDevice}
 
 abbrev pub Shaped : List Page → Type 0
 Shaped [] = Unit
@@ -100,52 +101,48 @@ pages-back t s o (p ∷ l) h room same =
 
 -- ---- a device
 
-unpaged-fits : (u : Unpaged) → unpagedForm .Fits u
-unfolding unpagedForm accountForm
-unpaged-fits u = (tt, (tt, (tt, (tt, (tt, (tt, (tt, tt)))))))
-
 -- a device of eight pages that fit, those that fail the test as before
 pub record Storable (t : ℕ → Bool) (before d : Device) : Type 0 where
   pub number : length (d .pages) ≡ 8
   pub shaped : Shaped (d .pages)
   pub same : (i : ℕ) → t i ≡ false → pageOf d i ≡ pageOf before i
 
-module _ (t : ℕ → Bool) (s : List ℕ) (long : length s ≡ 466) (d : Device) (h : Storable t (deviceOf s) d) where
+module _ (t : ℕ → Bool) (s : List ℕ) (long : length s ≡ size) (d : Device) (h : Storable t (deviceOf s) d) where
   paged : List ℕ
-  paged = storePages t s 34 (d .pages)
+  paged = storePages t s pagesFrom (d .pages)
 
   whole : List ℕ
   whole = storeDevice t s d
 
-  pages-room : Room s 34 (d .pages)
+  pages-room : Room s pagesFrom (d .pages)
   pages-room = rw (h .number, wide) (omega arith)
 
-  pages-long : length paged ≡ 466
+  pages-long : length paged ≡ size
   unfolding paged
-  pages-long = pages-length t s 34 (d .pages) (h .shaped) pages-room ∙ long
+  pages-long = pages-length t s pagesFrom (d .pages) (h .shaped) pages-room ∙ long
 
   unpaged-room : 22 + unpagedForm .width ≤ length paged
   unpaged-room = rw (unpaged-wide, pages-long) (omega arith)
 
-  pub device-length : length (storeDevice t s d) ≡ 466
+  pub device-length : length (storeDevice t s d) ≡ size
   unfolding paged storeDevice
   device-length = store-length unpagedForm unpaged-back paged 22 (d .unpaged) (unpaged-fits (d .unpaged)) unpaged-room ∙ pages-long
 
   pages-read : pagesIn paged ≡ d .pages
   unfolding paged
   pages-read =
-      ap (λ (k : ℕ). getAll pageForm k paged 34) (sym (h .number))
-      ∙ pages-back t s 34 (d .pages) (h .shaped) pages-room (λ i small f.
+      ap (λ (k : ℕ). getAll pageForm k paged pagesFrom) (sym (h .number))
+      ∙ pages-back t s pagesFrom (d .pages) (h .shaped) pages-room (λ i small f.
       h .same i f ∙ ap (λ (l : List Page). getD l i noPage) (pages-of s)
-      ∙ get-at pageForm page-back page-local 8 i s 34 noPage (rw (h .number) at small))
+      ∙ get-at pageForm page-back page-local 8 i s pagesFrom noPage (rw (h .number) at small))
 
   pages-kept : pagesIn whole ≡ pagesIn paged
   unfolding paged whole storeDevice Local
   pages-kept =
-      all-local pageForm page-local 8 whole paged 34
+      all-local pageForm page-local 8 whole paged pagesFrom
       (λ i lo hi. above unpagedForm unpaged-back paged 22 (d .unpaged) (unpaged-fits (d .unpaged)) unpaged-room i (rw unpaged-wide lo))
 
-  unpaged-read : unpagedForm .get whole 22 ≡ d .unpaged
+  unpaged-read : unpagedForm .get whole unpagedAt ≡ d .unpaged
   unfolding paged whole storeDevice
   unpaged-read = read-back unpagedForm unpaged-back paged 22 (d .unpaged) (unpaged-fits (d .unpaged)) unpaged-room
 
@@ -155,7 +152,7 @@ module _ (t : ℕ → Bool) (s : List ℕ) (long : length s ≡ 466) (d : Device
       part-local whole s 0 (λ i lo hi.
       let small : i < 22 = rw part-wide at hi in
       below unpagedForm unpaged-back paged 22 (d .unpaged) (unpaged-fits (d .unpaged)) unpaged-room i small
-      ∙ pages-below t s 34 (d .pages) (h .shaped) pages-room i (omega arith))
+      ∙ pages-below t s pagesFrom (d .pages) (h .shaped) pages-room i (omega arith))
 
   pub device-decodes : decode (storeDevice t s d) ≡ state (partOf s) d
   unfolding whole

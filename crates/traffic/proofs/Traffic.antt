@@ -4,16 +4,20 @@ use Prim.Native.Nat.{ℕ}
 use mathlib.Core.Path.{_≡_, refl, sym, ap, _∙_}
 use mathlib.Core.Bool.{and-eq-true-iff}
 use mathlib.Core.List.{List, [], _∷_, _++_}
+use lib.Dec.{eqb}
 use lib.ListN.{length}
 use Rattle.laws.proofs.Branches.{either}
 use Rattle.bus.specs.Part.{partValid}
+use Rattle.page.specs.declared.Page.{Page}
 use Rattle.unpaged.specs.declared.Unpaged.{Unpaged}
 use Rattle.unpaged.specs.Unpaged.{refused}
 use Rattle.writes.specs.Answers.{dataAnswer, lengthAnswer, codeAnswer, addressedAnswer, writeAnswer}
-use Rattle.reads.specs.Answers.{headerAnswer, readAnswer}
+use Rattle.reads.specs.Request.{requestOf}
+use Rattle.reads.specs.Answers.{readAnswer}
+use Rattle.reads.proofs.Requests.{answer-same}
 use Rattle.device.specs.declared.Device.{Device}
 use Rattle.device.specs.declared.Done.{Done}
-use Rattle.device.specs.Device.{deviceValid, alertRisen}
+use Rattle.device.specs.Device.{deviceValid, pageShown, alertRisen}
 use Rattle.device.specs.Step.{Call, write, read, measure, sample, alertResponse, tick, answerOf, answered, effect, measured, tickedDevice, refusedDevice, step}
 use Rattle.history.specs.Run.{next, answer}
 use Rattle.history.proofs.Outcomes.{done-next, refused-next, by-answer}
@@ -94,9 +98,9 @@ write-same : (n : ℕ) (u v : Unpaged) (s : List ℕ) → v .protect ≡ u .prot
 unfolding writeAnswer addressedAnswer codeAnswer lengthAnswer dataAnswer
 write-same n u v s e = rw e
 
-read-same : (u v : Unpaged) (header : List ℕ) (n : ℕ) → v .page ≡ u .page → readAnswer v header n ≡ readAnswer u header n
-unfolding readAnswer headerAnswer
-read-same u v header n e = rw e
+read-same : (u v : Unpaged) (p q : Page) (header : List ℕ) (n : ℕ) → v .page ≡ u .page → readAnswer v q header n ≡ readAnswer u p header n
+unfolding readAnswer
+read-same u v p q header n e = answer-same v u q p (requestOf header) n (ap (λ (x : ℕ). eqb x 0xFF) e)
 
 module _ (d e : Device) (k : Same d e) where
   write-answer : (s : List ℕ) → step e (write s) .done .answer ≡ step d (write s) .done .answer
@@ -105,7 +109,7 @@ module _ (d e : Device) (k : Same d e) where
 
   read-answer : (header : List ℕ) (n : ℕ) → step e (read header n) .done .answer ≡ step d (read header n) .done .answer
   unfolding step answered answerOf
-  read-answer header n = rw (k .valid, read-same (d .unpaged) (e .unpaged) header n (k .page))
+  read-answer header n = rw (k .valid, read-same (d .unpaged) (e .unpaged) (pageShown d) (pageShown e) header n (k .page))
 
 -- ---- the claims
 

@@ -8,11 +8,12 @@ use mathlib.Core.List.{List, [], _∷_}
 use lib.ListN.{length}
 use Rattle.bus.specs.Part.{idle}
 use Rattle.bus.specs.Automaton.{Event, start, byte, again, clock, stop}
-use Rattle.device.specs.Device.{powerOn}
+use Rattle.device.specs.Device.{usual, powerOn}
 use Rattle.device.specs.Step.{Call}
 use Rattle.stream.specs.Stream.{State, state, beginAnswer, byteAck, byteSent, stopped, called, Turn, on, call, after, feed}
-use Rattle.buffer.specs.Layout.{stateForm, size}
-use Rattle.buffer.specs.Buffer.{decode, encode, ready, callFed, eventFed, powerFed, refuses, eventGives, callGives, callSends, powerGives}
+use Rattle.layout.specs.Layout.{stateForm, size}
+use Rattle.layout.specs.State.{decode, encode, ready}
+use Rattle.buffer.specs.Buffer.{callFed, eventFed, powerFed, refuses, eventGives, callGives, callSends, powerGives}
 
 -- ---- what is left of a buffer of the right length
 
@@ -28,7 +29,7 @@ unfoldable pub CallsDecode : Type 0
 CallsDecode = (s : List ℕ) (c : Call) → length s ≡ size → decode (callFed s c) ≡ after (decode s) (call c)
 
 unfoldable pub PowerDecodes : Type 0
-PowerDecodes = (s : List ℕ) → length s ≡ size → decode (powerFed s) ≡ state idle (powerOn 8)
+PowerDecodes = (s : List ℕ) → length s ≡ size → decode (powerFed s) ≡ state idle (powerOn (usual 8))
 
 unfoldable pub LengthStays : Type 0
 LengthStays =

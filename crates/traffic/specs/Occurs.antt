@@ -7,12 +7,12 @@ use mathlib.Core.Path.{_≡_}
 use mathlib.Core.List.{List}
 use lib.ListN.{length, getD}
 use Rattle.bus.specs.Part.{idle}
-use Rattle.device.specs.Device.{powerOn}
+use Rattle.device.specs.Device.{usual, powerOn}
 use Rattle.stream.specs.Stream.{State, state, Turn, feed}
 
 -- the states of a run of the shelf device from power-on
 abbrev pub reachedBy : List Turn → State
-reachedBy ts = feed (state idle (powerOn 8)) ts
+reachedBy ts = feed (state idle (powerOn (usual 8))) ts
 
 -- ---- the three numbers, each up to the bound of `partValid`
 

@@ -8,14 +8,14 @@ use Rattle.bus.specs.Part.{started, idle}
 use Rattle.bus.specs.Automaton.{start, byte, again, clock, stop}
 use Rattle.bus.specs.Orders.{writeOrder, readOrder}
 use Rattle.device.specs.declared.Device.{Device}
-use Rattle.device.specs.Device.{powerOn, supported}
+use Rattle.device.specs.Device.{Choice, granted, powerOn}
 use Rattle.device.specs.Step.{Call, write, read, step}
 use Rattle.stream.specs.Stream.{State, state, stateValid, stopped, called, Turn, on, call, after, feed, sentIn, events}
 use Rattle.history.specs.Run.{next, answer, run, reached}
 
 -- No event and no call of a run from power-on gets 15, orderly or not.
 unfoldable pub NoFifteen : Type 0
-NoFifteen = (n : ℕ) (ts : List Turn) → supported n ≡ true → stateValid (feed (state idle (powerOn n)) ts) ≡ true
+NoFifteen = (x : Choice) (ts : List Turn) → granted x ≡ true → stateValid (feed (state idle (powerOn x)) ts) ≡ true
 
 -- A transaction from START to STOP with nothing between, or another call.
 pub data Item : Type 0 where
@@ -66,7 +66,7 @@ SameOutcomes = (d : Device) (l : List Item) → givenAlong (state idle d) l ≡ 
 -- ---- every run, orderly or not, with anything between: its device is one that whole calls reach, so that what holds of each state of a run
 -- of whole calls (crate history) holds of it
 unfoldable pub Reaches : Type 0
-Reaches = (n : ℕ) (ts : List Turn) → (cs : List Call) × (feed (state idle (powerOn n)) ts .device ≡ reached n cs)
+Reaches = (x : Choice) (ts : List Turn) → (cs : List Call) × (feed (state idle (powerOn x)) ts .device ≡ reached x cs)
 
 -- ---- until STOP nothing but the other calls changes the device; a START then drops what was under way, whatever that was
 abbrev pub NoStop : List Turn → Type 0

@@ -44,6 +44,10 @@ everyPage u = eqb (u .page) 0xFF
 unfoldable pub actsOn : Unpaged → ℕ → Bool
 actsOn u i = eqb i (u .page) || everyPage u
 
+-- the page that a read looks at: the selected one, or page 0 where every one is
+unfoldable pub shown : Unpaged → ℕ
+shown u = cond (everyPage u) 0 (u .page)
+
 -- PAGE, with n pages, and WRITE_PROTECT are valid data, and the account is in range (data sheet 12.2)
 unfoldable pub unpagedValid : ℕ → Unpaged → Bool
 unpagedValid n u = validPage n (u .page) && validProtect (u .protect) && accountValid (u .energy)

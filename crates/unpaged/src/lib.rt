@@ -1,7 +1,7 @@
 // The unpaged part of the device: PAGE, WRITE_PROTECT, STATUS_CML, the alert and the energy account. Which values are valid,
 // what a refusal leaves, and the answers of the calls that are no transactions.
 ghost use mathlib.Core.Path.{_≡_};
-ghost use Rattle.unpaged.specs.Unpaged.{validPage, validProtect, unpagedValid, powerOnUnpaged, cmlBits, refused, withEnergy};
+ghost use Rattle.unpaged.specs.Unpaged.{validPage, validProtect, unpagedValid, powerOnUnpaged, cmlBits, refused, withEnergy, shown};
 use account::Account;
 
 pub mod events; // events.rt: the answers of measurements and alert responses
@@ -36,6 +36,16 @@ pub fn valid_page(n: u8, x: u8) -> bool
     ensures { λ r. ⌜ r ≡ validPage n x ⌝ }
 {
     (x < n) | (x == 0xFF)
+}
+
+// The page that a read looks at: the selected one, or page 0 where every one is.
+pub fn shown(u: Unpaged) -> u8
+    ensures { λ r. ⌜ r ≡ shown u ⌝ }
+{
+    if u.page == 0xFF {
+        return 0;
+    }
+    u.page
 }
 
 pub fn valid_protect(x: u8) -> bool

@@ -1,7 +1,7 @@
 -- `device::power_on` meets its contract.
 -- Assumes nothing.
-use Rattle.device.specs.Device.{powerOn}
 use borrow.Author.Needs.{needs}
+use Rattle.device.proofs.PowerOn.{usual-device}
 use Rattle.device.proofs.power_on.Statement.{statement}
 use Rattle.device.proofs.power_on.Tie as tie
 
@@ -12,8 +12,7 @@ power-on-page-requires : tie.Need-power-on-page-requires
 power-on-page-requires c κs = search needs
 
 returns : tie.Need-returns
-unfolding powerOn
-returns c = cc
+returns c = rw (usual-device 8) cc
 
 pub power-on-spec : {M : Type 1} → statement M
 power-on-spec = tie.close (tie.spec power-on-unpaged-requires power-on-page-requires returns)

@@ -37,6 +37,7 @@ use denote.Triple.Walked.{says, Stays, stay-none, stay-none-slice, stay-slice, w
 use denote.Exit.{yes}
 use Rattle.page.specs.declared.Page.{Page}
 use Rattle.unpaged.specs.declared.Unpaged.{Unpaged}
+use Rattle.unpaged.specs.Events.{alertAnswer}
 use Rattle.reads.specs.Reply.{replyOf, streamOf}
 use Rattle.device.specs.Device.{device}
 use Rattle.device.specs.Step.{Call, alertResponse, step}
@@ -45,7 +46,8 @@ use Rattle.records.proofs.Walk.{span, free-all}
 use Rattle.records.proofs.Calls.{none, ref, sv, calls-plain, calls-mut, calls-shr}
 use Rattle.records.proofs.Paged.{seen, word64, R, spell, tells, homes, typed}
 use Rattle.lent.specs.declared.Outcome.{Outcome}
-use Rattle.lent.specs.Lent.{beside}
+use Rattle.lent.specs.Lent.{beside, seenAnswer, alertTurn}
+use Rattle.lent.proofs.Known.{alert-known}
 use Rattle.lent.proofs.turns.Sending as Sends
 use Rattle.lent.proofs.turns.Sending.Laws as Sends′
 use Rattle.lent.proofs.Callees.{unpaged, stream, outcome, sending, Survey, Send}
@@ -111,7 +113,7 @@ module _ {M : Type 1} (𝓤 : URA M) (H : Heap 𝓤) (A : Atoms 𝓤) (W : Given
           calls-shr R b o ps ! fm (Survey 𝓤 H A mem run) look-over (((κ, tt), (q, tt), tt, (ref b o γ ps, tt), (sv b o (length ps), tt)), tt) [] tt tt seen (λ s. s ≡ surveyed ps) (id⊢ 𝓤 _) (λ w. id⊢ 𝓤 _) (and-then ! (load ! (from ! (stop !)) (look ! 8 refl)) (no-more !)) (λ s gs es.
           land ! (from ! (stop !)) (init ! 14 refl (seen .lawful 𝓤 H A W .typed s (seen .spell s) gs .0)) $
           calls-plain ! fm (Turned 𝓤 H A mem run) decide ((tt, tt, tt, (s, (u, (length rs, tt))), (seen .spell s, (unpaged .spell u, (vint w64 (length rs) ∷ [], tt)))), tt) (seen ∷ unpaged ∷ word64 ∷ []) (s, (u, (length rs, tt))) (gs, (gu, ((refl, room′ .0), tt))) sending
-          (λ t. ((l : List Page) → s ≡ surveyed l → (beside (t .outcome) l ≡ step (device u l) call .done) × (replyOf (streamOf (t .stream)) (length rs) ≡ step (device u l) call .reply))) (id⊢ 𝓤 _) (λ w. id⊢ 𝓤 _)
+          (λ t. t ≡ alertTurn u (seenAnswer s u (alertAnswer (u .alert) (length rs)))) (id⊢ 𝓤 _) (λ w. id⊢ 𝓤 _)
           (and-then ! (load ! (from ! (stop !)) (look ! 15 refl)) (and-then ! (load ! (from ! (stop !)) (look ! 7 refl)) (and-then ! (load ! (from ! (stop !)) (look ! 13 refl)) (no-more !)))) (λ t gt et.
           let fields = LL.owed Sends.the-type Sends′.the-laws t (sending .spell t) gt in
           land ! (from ! (stop !)) (init ! 16 refl (sending .lawful 𝓤 H A W .typed t (sending .spell t) gt .0)) $ move ! (2 ∷ 3 ∷ []) $
@@ -122,7 +124,7 @@ module _ {M : Type 1} (𝓤 : URA M) (H : Heap 𝓤) (A : Atoms 𝓤) (W : Given
           land ! (from ! (stop !)) (init ! 18 refl (tt, tt)) $
           assigns ! (of-opd ! (load ! (from ! (fld ! refl (stop !))) (look-in ! 16 (sub ! 0 refl (whole !))))) (from ! (stop !)) (init ! 4 refl (outcome .lawful 𝓤 H A W .typed (t .outcome) (outcome .spell (t .outcome)) (fields .0) .0)) $
           returns ! (look ! 4 refl) $ move ! (span 4 20) $ free-all ! (homes 𝓤 H body.locals (l0 ∷ l1 ∷ l2 ∷ l3 ∷ l4 ∷ l5 ∷ l6 ∷ l7 ∷ l8 ∷ l9 ∷ [])) ((_ ∷ []) ∷ (_ ∷ []) ∷ (_ ∷ []) ∷ (_ ∷ []) ∷ (_ ∷ []) ∷ (_ ∷ []) ∷ (_ ∷ []) ∷ (_ ∷ []) ∷ (_ ∷ []) ∷ (_ ∷ []) ∷ [])
-          (by ! (exits (t .outcome) zs (fields .0) l (et ps es .0) (ez ∙ et ps es .1))))))))))))))))
+          (let both = alert-known u s (length rs) t et ps es in by ! (exits (t .outcome) zs (fields .0) l (both .0) (ez ∙ both .1))))))))))))))))
 
 module _ {M : Type 1} (𝓤 : URA M) (H : Heap 𝓤) (A : Atoms 𝓤) (W : Given 𝓤 H A) (mem : Memory → SProp 𝓤) (run : Routine → Fun 𝓤) (𝓣 : Tables 𝓤 H) (look-over : Triple 𝓤 (𝓣 .C #survey) (Survey 𝓤 H A mem run)) (decide : Triple 𝓤 (𝓣 .C #turned) (Turned 𝓤 H A mem run)) (send-it : Triple 𝓤 (𝓣 .C #send) (Send 𝓤 H A mem run)) where
   f-walks : Walks 𝓤 H A f.ended stayed (WpFn 𝓤 H (𝓣 .C) (𝓣 .Λ) code.function) (f.clauses 𝓤 H A mem run)

@@ -38,17 +38,19 @@ use denote.Exit.{yes}
 use Rattle.page.specs.declared.Page.{Page}
 use Rattle.page.specs.Page.{powerOnPage}
 use Rattle.unpaged.specs.declared.Unpaged.{Unpaged}
+use Rattle.unpaged.specs.Events.{measureAnswer}
 use Rattle.device.specs.Device.{device}
-use Rattle.device.specs.Step.{measure, answered, step}
-use Rattle.records.specs.Records.{surveyed}
+use Rattle.device.specs.Step.{measure, step}
+use Rattle.records.specs.Records.{surveyed, taken, putBack}
 use Rattle.records.proofs.Walk.{span, free-all}
 use Rattle.records.proofs.Calls.{none, rows, made, ref, sv, calls-plain, calls-mut, calls-look}
 use Rattle.records.proofs.Paged.{page, seen, byte, half, R, spell, tells, homes, typed}
 use Rattle.lent.specs.declared.Outcome.{Outcome}
-use Rattle.lent.specs.Lent.{beside, measureTurn}
+use Rattle.lent.specs.Lent.{beside, seenAnswer, measureTurn}
+use Rattle.lent.proofs.Known.{measure-known}
 use Rattle.lent.proofs.turns.Turn as Turns
 use Rattle.lent.proofs.turns.Turn.Laws as Turns′
-use Rattle.lent.proofs.Outcomes.{measure-done}
+use Rattle.lent.proofs.Outcomes.{measure-lent}
 use Rattle.lent.proofs.Callees.{unpaged, outcome, turn, Survey, Take, Put}
 use Rattle.lent.proofs.turns.measure_turn as turned
 use Rattle.records.proofs.survey.Symbol as survey-def
@@ -112,24 +114,24 @@ module _ {M : Type 1} (𝓤 : URA M) (H : Heap 𝓤) (A : Atoms 𝓤) (W : Given
           land ! (from ! (stop !)) (init ! 14 refl (seen .lawful 𝓤 H A W .typed s (seen .spell s) gs .0)) $
           assigns ! (addr ! (from ! (fld ! refl (hop ! (look-in ! 6 (sub ! 0 refl (whole !))) (stop !))))) (from ! (stop !)) (init ! 24 refl (tt, tt)) $
           assigns ! (agg ! (and-then ! (load ! (from ! (stop !)) (look ! 24 refl)) (and-then ! (load ! (from ! (fld ! refl (stop !))) (look-in ! 6 (sub ! 1 refl (whole !)))) (no-more !)))) (from ! (stop !)) (init ! 26 refl (tt, (tt, (record { fits = room .0 }, tt)))) $
-          calls-look R b o ps ! fm (length ps) refl room (Take 𝓤 H A mem run) take-it (λ ν δ. (((ν ∷ [], tt), (fullShare, tt), tt, (ref b o δ ps, (k, tt)), (sv b o (length ps), (vint w8 k ∷ [], tt))), tt)) (byte ∷ []) (k, tt) ((refl, gk), tt) page (λ p. p ≡ getD ps k powerOnPage) (λ ν δ. id⊢ 𝓤 _) (λ ν δ w. id⊢ 𝓤 _)
+          calls-look R b o ps ! fm (length ps) refl room (Take 𝓤 H A mem run) take-it (λ ν δ. (((ν ∷ [], tt), (fullShare, tt), tt, (ref b o δ ps, (k, tt)), (sv b o (length ps), (vint w8 k ∷ [], tt))), tt)) (byte ∷ []) (k, tt) ((refl, gk), tt) page (λ p. p ≡ taken ps k) (λ ν δ. id⊢ 𝓤 _) (λ ν δ w. id⊢ 𝓤 _)
           (λ ν δ. (and-then ! (load ! (from ! (stop !)) (look ! 26 refl)) (and-then ! (load ! (from ! (stop !)) (look ! 8 refl)) (no-more !)))) (λ p gp ep.
           land ! (from ! (stop !)) (init ! 16 refl (typed 𝓤 H A W p gp .0)) $
           calls-plain ! fm (Turned 𝓤 H A mem run) decide ((tt, tt, tt, (s, (u, (p, (k, (quantity, (x, tt)))))), (seen .spell s, (unpaged .spell u, (spell p, (vint w8 k ∷ [], (vint w8 quantity ∷ [], (vint w16 x ∷ [], tt))))))), tt)
           (seen ∷ unpaged ∷ page ∷ byte ∷ byte ∷ half ∷ []) (s, (u, (p, (k, (quantity, (x, tt)))))) (gs, (gu, (gp, ((refl, gk), ((refl, gq), ((refl, gx), tt)))))) turn
-          (λ t. ((l : List Page) → s ≡ surveyed l → t ≡ measureTurn u p (answered (device u l) (measure k quantity x)) quantity x)) (id⊢ 𝓤 _) (λ w. id⊢ 𝓤 _)
+          (λ t. t ≡ measureTurn u p (seenAnswer s u (measureAnswer (s .number) k quantity)) quantity x) (id⊢ 𝓤 _) (λ w. id⊢ 𝓤 _)
           (and-then ! (load ! (from ! (stop !)) (look ! 15 refl)) (and-then ! (load ! (from ! (stop !)) (look ! 5 refl)) (and-then ! (load ! (from ! (stop !)) (look ! 17 refl)) (and-then ! (load ! (from ! (stop !)) (look ! 9 refl)) (and-then ! (load ! (from ! (stop !)) (look ! 11 refl)) (and-then ! (load ! (from ! (stop !)) (look ! 13 refl)) (no-more !))))))) (λ t gt et.
           let fields = LL.owed Turns.the-type Turns′.the-laws t (turn .spell t) gt in
           land ! (from ! (stop !)) (init ! 18 refl (turn .lawful 𝓤 H A W .typed t (turn .spell t) gt .0)) $
           assigns ! (addr ! (from ! (fld ! refl (hop ! (look-in ! 6 (sub ! 0 refl (whole !))) (stop !))))) (from ! (stop !)) (init ! 30 refl (tt, tt)) $
           assigns ! (agg ! (and-then ! (load ! (from ! (stop !)) (look ! 30 refl)) (and-then ! (load ! (from ! (fld ! refl (stop !))) (look-in ! 6 (sub ! 1 refl (whole !)))) (no-more !)))) (from ! (stop !)) (init ! 32 refl (tt, (tt, (record { fits = room .0 }, tt)))) $
-          calls-mut R b o ps ! fm (length ps) refl room (Put 𝓤 H A mem run) put-it (λ ν δ. (((ν ∷ [], tt), (fullShare, tt), tt, (ref b o δ ps, (k, (t .page, tt))), (sv b o (length ps), (vint w8 k ∷ [], (spell (t .page), tt)))), tt)) (byte ∷ page ∷ []) (k, (t .page, tt)) ((refl, gk), (fields .1 .0, tt)) none (λ r zs. zs ≡ set ps k (t .page)) (λ ν δ. id⊢ 𝓤 _) (λ ν δ w. id⊢ 𝓤 _)
+          calls-mut R b o ps ! fm (length ps) refl room (Put 𝓤 H A mem run) put-it (λ ν δ. (((ν ∷ [], tt), (fullShare, tt), tt, (ref b o δ ps, (k, (t .page, tt))), (sv b o (length ps), (vint w8 k ∷ [], (spell (t .page), tt)))), tt)) (byte ∷ page ∷ []) (k, (t .page, tt)) ((refl, gk), (fields .1 .0, tt)) none (λ r zs. zs ≡ putBack ps k (t .page)) (λ ν δ. id⊢ 𝓤 _) (λ ν δ w. id⊢ 𝓤 _)
           (λ ν δ. (and-then ! (load ! (from ! (stop !)) (look ! 32 refl)) (and-then ! (load ! (from ! (stop !)) (look ! 8 refl)) (and-then ! (load ! (from ! (fld ! refl (stop !))) (look-in ! 18 (sub ! 1 refl (whole !)))) (no-more !))))) (λ r zs gr ez l.
           land ! (from ! (stop !)) (init ! 28 refl (tt, tt)) $
           assigns ! (of-opd ! (load ! (from ! (fld ! refl (stop !))) (look-in ! 18 (sub ! 0 refl (whole !))))) (from ! (stop !)) (init ! 2 refl (outcome .lawful 𝓤 H A W .typed (t .outcome) (outcome .spell (t .outcome)) (fields .0) .0)) $
           returns ! (look ! 2 refl) $ move ! (span 2 32) $
           free-all ! (homes 𝓤 H body.locals (l0 ∷ l1 ∷ l2 ∷ l3 ∷ l4 ∷ l5 ∷ l6 ∷ l7 ∷ l8 ∷ l9 ∷ l10 ∷ l11 ∷ l12 ∷ l13 ∷ l14 ∷ l15 ∷ [])) ((_ ∷ []) ∷ (_ ∷ []) ∷ (_ ∷ []) ∷ (_ ∷ []) ∷ (_ ∷ []) ∷ (_ ∷ []) ∷ (_ ∷ []) ∷ (_ ∷ []) ∷ (_ ∷ []) ∷ (_ ∷ []) ∷ (_ ∷ []) ∷ (_ ∷ []) ∷ (_ ∷ []) ∷ (_ ∷ []) ∷ (_ ∷ []) ∷ (_ ∷ []) ∷ [])
-          (by ! (exits (t .outcome) zs (fields .0) l (ap (beside (t .outcome)) ez ∙ measure-done u ps k quantity x p t ep (et ps es))))))))))))))))))))))))
+          (by ! (exits (t .outcome) zs (fields .0) l (ap (beside (t .outcome)) ez ∙ measure-lent u ps k quantity x p t ep (measure-known u s p k quantity x t et ps es))))))))))))))))))))))))
 
 module _ {M : Type 1} (𝓤 : URA M) (H : Heap 𝓤) (A : Atoms 𝓤) (W : Given 𝓤 H A) (mem : Memory → SProp 𝓤) (run : Routine → Fun 𝓤) (𝓣 : Tables 𝓤 H) (look-over : Triple 𝓤 (𝓣 .C #survey) (Survey 𝓤 H A mem run)) (take-it : Triple 𝓤 (𝓣 .C #take) (Take 𝓤 H A mem run)) (decide : Triple 𝓤 (𝓣 .C #turned) (Turned 𝓤 H A mem run)) (put-it : Triple 𝓤 (𝓣 .C #put) (Put 𝓤 H A mem run)) where
   f-walks : Walks 𝓤 H A f.ended stayed (WpFn 𝓤 H (𝓣 .C) (𝓣 .Λ) code.function) (f.clauses 𝓤 H A mem run)

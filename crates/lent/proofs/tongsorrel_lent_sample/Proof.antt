@@ -32,6 +32,7 @@ use denote.Triple.Statement.{Contract, Triple}
 use denote.Triple.Table.{entered, cited}
 use denote.Triple.Walked.{says, Stays, stay-none, stay-none-slice, walkOf, goes-none, goes-none-slice, Walks, ends-at, walked, walk-meets}
 use denote.Exit.{yes}
+use Rattle.account.specs.Account.{sampled}
 use Rattle.page.specs.declared.Page.{Page}
 use Rattle.unpaged.specs.declared.Unpaged.{Unpaged}
 use Rattle.device.specs.Device.{device}
@@ -41,7 +42,8 @@ use Rattle.records.proofs.Walk.{span, free-all}
 use Rattle.records.proofs.Calls.{rows, made, ref, sv, calls-plain, calls-shr}
 use Rattle.records.proofs.Paged.{seen, half, R, spell, tells, homes, typed}
 use Rattle.lent.specs.declared.Outcome.{Outcome}
-use Rattle.lent.specs.Lent.{beside}
+use Rattle.lent.specs.Lent.{beside, seenAnswer, sampleLeft}
+use Rattle.lent.proofs.Known.{sample-known}
 use Rattle.lent.proofs.Callees.{unpaged, outcome, Survey}
 use Rattle.lent.proofs.turns.sample_outcome as turned
 use Rattle.records.proofs.survey.Symbol as survey-def
@@ -100,10 +102,10 @@ module _ {M : Type 1} (𝓤 : URA M) (H : Heap 𝓤) (A : Atoms 𝓤) (W : Given
           (and-then ! (load ! (from ! (stop !)) (look ! 6 refl)) (no-more !)) (λ s gs es.
           land ! (from ! (stop !)) (init ! 10 refl (seen .lawful 𝓤 H A W .typed s (seen .spell s) gs .0)) $
           calls-plain ! fm (Turned 𝓤 H A mem run) decide ((tt, tt, tt, (s, (u, (power, tt))), (seen .spell s, (unpaged .spell u, (vint w16 power ∷ [], tt)))), tt) (seen ∷ unpaged ∷ half ∷ []) (s, (u, (power, tt))) (gs, (gu, ((refl, gp), tt))) outcome
-          (λ r. ((l : List Page) → s ≡ surveyed l → beside r l ≡ step (device u l) (sample power) .done)) (id⊢ 𝓤 _) (λ w. id⊢ 𝓤 _)
+          (λ r. r ≡ sampleLeft u (seenAnswer s u (sampled (u .energy) power .answer)) power) (id⊢ 𝓤 _) (λ w. id⊢ 𝓤 _)
           (and-then ! (load ! (from ! (stop !)) (look ! 11 refl)) (and-then ! (load ! (from ! (stop !)) (look ! 5 refl)) (and-then ! (load ! (from ! (stop !)) (look ! 9 refl)) (no-more !)))) (λ r gr er.
           land ! (from ! (stop !)) (init ! 2 refl (outcome .lawful 𝓤 H A W .typed r (outcome .spell r) gr .0)) $ returns ! (look ! 2 refl) $ move ! (span 2 10) $
-          free-all ! E ((_ ∷ []) ∷ (vals .0) ∷ (vals .1 .0) ∷ (vals .1 .1 .0) ∷ (_ ∷ []) ∷ []) (by ! (exits r gr (er ps es))))))))))
+          free-all ! E ((_ ∷ []) ∷ (vals .0) ∷ (vals .1 .0) ∷ (vals .1 .1 .0) ∷ (_ ∷ []) ∷ []) (by ! (exits r gr (sample-known u s power r er ps es))))))))))
 
 module _ {M : Type 1} (𝓤 : URA M) (H : Heap 𝓤) (A : Atoms 𝓤) (W : Given 𝓤 H A) (mem : Memory → SProp 𝓤) (run : Routine → Fun 𝓤) (𝓣 : Tables 𝓤 H) (look-over : Triple 𝓤 (𝓣 .C #survey) (Survey 𝓤 H A mem run)) (decide : Triple 𝓤 (𝓣 .C #turned) (Turned 𝓤 H A mem run)) where
   f-walks : Walks 𝓤 H A f.ended stayed (WpFn 𝓤 H (𝓣 .C) (𝓣 .Λ) code.function) (f.clauses 𝓤 H A mem run)

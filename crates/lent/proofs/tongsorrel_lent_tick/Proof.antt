@@ -47,6 +47,7 @@ use Rattle.records.proofs.Paged.{seen, R, spell, tells, homes, typed}
 use Rattle.lent.specs.declared.Outcome.{Outcome}
 use Rattle.lent.specs.Lent as lent
 use Rattle.lent.specs.Lent.{beside}
+use Rattle.lent.proofs.Known.{tick-known}
 use Rattle.lent.proofs.Outcomes.{tick-done, tick-kept}
 use Rattle.lent.proofs.Callees.{unpaged, outcome, Survey, Tick}
 use Rattle.lent.proofs.turns.tick_outcome as turned
@@ -115,10 +116,10 @@ module _ {M : Type 1} (𝓤 : URA M) (H : Heap 𝓤) (A : Atoms 𝓤) (W : Given
           (λ ν δ. (and-then ! (load ! (from ! (stop !)) (look ! 14 refl)) (no-more !))) (λ s gs es.
           land ! (from ! (stop !)) (init ! 8 refl (seen .lawful 𝓤 H A W .typed s (seen .spell s) gs .0)) $
           calls-plain ! fm (Turned 𝓤 H A mem run) decide ((tt, tt, tt, (s, (u, tt)), (seen .spell s, (unpaged .spell u, tt))), tt) (seen ∷ unpaged ∷ []) (s, (u, tt)) (gs, (gu, tt)) outcome
-          (λ r. ((l : List Page) → s ≡ surveyed l → r ≡ lent.outcome u (answered (device u l) tick))) (id⊢ 𝓤 _) (λ w. id⊢ 𝓤 _)
+          (λ r. r ≡ lent.outcome u (lent.seenAnswer s u 0)) (id⊢ 𝓤 _) (λ w. id⊢ 𝓤 _)
           (and-then ! (load ! (from ! (stop !)) (look ! 9 refl)) (and-then ! (load ! (from ! (stop !)) (look ! 5 refl)) (no-more !))) (λ r gr er.
           let good = outcome .lawful 𝓤 H A W .typed r (outcome .spell r) gr .0 in
-          let is = er ps es in
+          let is = tick-known u s r er ps es in
           land ! (from ! (stop !)) (init ! 10 refl good) $
           assigns ! (bin ! (load ! (from ! (fld ! refl (stop !))) (look-in ! 10 (sub ! 1 refl (whole !)))) (lit ! tt) tt) (from ! (stop !)) (init ! 16 refl (tt, tt)) $
           first ! $ branches ! (load ! (from ! (stop !)) (look ! 16 refl))

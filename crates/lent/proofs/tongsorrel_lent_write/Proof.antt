@@ -38,25 +38,28 @@ use denote.Triple.Walked.{says, Stays, stay-none, stay-none-slice, stay-slice, w
 use denote.Exit.{yes}
 use Rattle.laws.specs.Lists.{anyOf}
 use Rattle.page.specs.declared.Page.{Page}
-use Rattle.page.specs.Page.{powerOnPage}
 use Rattle.page.specs.Status.{anyStatus}
 use Rattle.unpaged.specs.declared.Unpaged.{Unpaged}
 use Rattle.unpaged.proofs.Unpaged as U
 use Rattle.unpaged.proofs.Unpaged.Laws as U′
 use Rattle.writes.specs.Asked.{asked}
+use Rattle.writes.specs.Answers.{writeAnswer}
+use Rattle.writes.proofs.answers.Judged as Judged
+use Rattle.writes.proofs.answers.Judged.Laws as Judged′
 use Rattle.device.specs.Device.{device}
-use Rattle.device.specs.Step.{write, answered, step}
-use Rattle.records.specs.Records.{surveyed}
+use Rattle.device.specs.Step.{write, step}
+use Rattle.records.specs.Records.{surveyed, taken, putBack}
 use Rattle.records.proofs.Walk.{span, free-all}
 use Rattle.records.proofs.Calls.{flag, none, ref, sv, calls-plain, calls-mut, calls-shr, calls-look}
 use Rattle.records.proofs.Paged.{page, seen, byte, R, spell, tells, homes, typed}
 use Rattle.lent.specs.declared.Outcome.{Outcome}
-use Rattle.lent.specs.Lent.{beside, writeTurn, finished}
+use Rattle.lent.specs.Lent.{beside, seenAnswer, writeTurn, finished}
 use Rattle.lent.proofs.turns.Turn as Turns
 use Rattle.lent.proofs.turns.Turn.Laws as Turns′
-use Rattle.lent.proofs.Outcomes.{swept, rising, write-done}
-use Rattle.lent.proofs.Callees.{unpaged, writing, outcome, turn, Survey, Take, Put, AnyBit}
-use Rattle.writes.proofs.asked.asked as ask
+use Rattle.lent.proofs.Outcomes.{swept, rising, write-lent}
+use Rattle.lent.proofs.Known.{write-known, write-asked}
+use Rattle.lent.proofs.Callees.{unpaged, writing, judged, outcome, turn, Survey, Take, Put, AnyBit}
+use Rattle.lent.proofs.turns.judged as judge
 use Rattle.lent.proofs.every.every as sweep
 use Rattle.lent.proofs.turns.write_turn as turned
 use Rattle.lent.proofs.turns.finished as finish
@@ -66,9 +69,9 @@ use Rattle.records.proofs.survey.Met as survey-thm
 use Rattle.records.proofs.take.Symbol as take-def
 use Rattle.records.proofs.take.Symbol.{name as #take}
 use Rattle.records.proofs.take.Met as take-thm
-use Rattle.writes.proofs.asked.asked.Symbol as ask-def
-use Rattle.writes.proofs.asked.asked.Symbol.{name as #ask}
-use Rattle.writes.proofs.asked.asked.Met as ask-thm
+use Rattle.lent.proofs.turns.judged.Symbol as judge-def
+use Rattle.lent.proofs.turns.judged.Symbol.{name as #judge}
+use Rattle.lent.proofs.turns.judged.Met as judge-thm
 use Rattle.lent.proofs.every.every.Symbol as sweep-def
 use Rattle.lent.proofs.every.every.Symbol.{name as #sweep}
 use Rattle.lent.proofs.every.every.Met as sweep-thm
@@ -94,8 +97,8 @@ abbrev stayed : Stays (f.ended .signature .params) (f.ended .kept)
 stayed = (stay-none (λ _. unpaged .row) yes, (stay-slice (0 ∷ []) tt (plain (λ _. R)), (stay-none-slice (1 ∷ []) tt (plain (λ _. u8)) yes, tt)))
 
 module _ {M : Type 1} (𝓤 : URA M) (H : Heap 𝓤) (A : Atoms 𝓤) (mem : Memory → SProp 𝓤) (run : Routine → Fun 𝓤) where
-  abbrev Ask : Contract 𝓤
-  Ask = tripleOf 𝓤 H A ask.signature (ask.spec 𝓤 H A mem run)
+  abbrev Judge : Contract 𝓤
+  Judge = tripleOf 𝓤 H A judge.signature (judge.spec 𝓤 H A mem run)
 
   abbrev Sweep : Contract 𝓤
   Sweep = tripleOf 𝓤 H A sweep.signature (sweep.spec 𝓤 H A mem run)
@@ -136,7 +139,7 @@ module _ {M : Type 1} (𝓤 : URA M) (H : Heap 𝓤) (A : Atoms 𝓤) (W : Given
         owned ! (unpaged .row) (Is (unpaged .row)) (unpaged .makes 𝓤 H A W) u (unpaged .spell u) gu $ fjoin ! $ frame ! $
         owned ! (outcome .row) (Is (outcome .row)) (outcome .makes 𝓤 H A W) r (outcome .spell r) gr $ done !
 
-    module _ (C : Calls 𝓤 H) (Λ : Loops 𝓤 H) (fm : FmC 𝓤 H (W .laws) C) (look-over : Triple 𝓤 (C #survey) (Survey 𝓤 H A mem run)) (take-it : Triple 𝓤 (C #take) (Take 𝓤 H A mem run)) (ask-it : Triple 𝓤 (C #ask) (Ask 𝓤 H A mem run)) (decide : Triple 𝓤 (C #turned) (Turned 𝓤 H A mem run)) (put-it : Triple 𝓤 (C #put) (Put 𝓤 H A mem run)) (sweep-all : Triple 𝓤 (C #sweep) (Sweep 𝓤 H A mem run)) (any-bit : Triple 𝓤 (C #any) (AnyBit 𝓤 H A mem run)) (end : Triple 𝓤 (C #finish) (Finish 𝓤 H A mem run)) where
+    module _ (C : Calls 𝓤 H) (Λ : Loops 𝓤 H) (fm : FmC 𝓤 H (W .laws) C) (look-over : Triple 𝓤 (C #survey) (Survey 𝓤 H A mem run)) (take-it : Triple 𝓤 (C #take) (Take 𝓤 H A mem run)) (judge-it : Triple 𝓤 (C #judge) (Judge 𝓤 H A mem run)) (decide : Triple 𝓤 (C #turned) (Turned 𝓤 H A mem run)) (put-it : Triple 𝓤 (C #put) (Put 𝓤 H A mem run)) (sweep-all : Triple 𝓤 (C #sweep) (Sweep 𝓤 H A mem run)) (any-bit : Triple 𝓤 (C #any) (AnyBit 𝓤 H A mem run)) (end : Triple 𝓤 (C #finish) (Finish 𝓤 H A mem run)) where
       walk : ent 𝓤 (onEntry 𝓤 H A f.signature (κ, (κ′, tt)) (q, (q′, tt)) arg vals) (WpFn 𝓤 H C Λ code.function (only (unpaged .spell u) ∷ sliceVal (b, o) (length ps) ∷ sliceVal (b′, o′) (length bs) ∷ []) Post)
       walk =
           qed W ((‵ (flft κ q) ⊛ (‵ (flft κ′ q′) ⊛ ‵ ftrue)) ∷ ‵ (owns (unpaged .row ∷ MutSlice (named 0) κ R ∷ ShrSlice (named 1) κ′ u8 ∷ []) arg vals) ∷ []) ∵ enter ! C Λ code.function (only (unpaged .spell u) ∷ sliceVal (b, o) (length ps) ∷ sliceVal (b′, o′) (length bs) ∷ []) _ $
@@ -151,26 +154,28 @@ module _ {M : Type 1} (𝓤 : URA M) (H : Heap 𝓤) (A : Atoms 𝓤) (W : Given
           land ! (from ! (stop !)) (init ! 12 refl (seen .lawful 𝓤 H A W .typed s (seen .spell s) gs .0)) $
           assigns ! (addr ! (from ! (fld ! refl (hop ! (look-in ! 8 (sub ! 0 refl (whole !))) (stop !))))) (from ! (stop !)) (init ! 28 refl (tt, tt)) $
           assigns ! (agg ! (and-then ! (load ! (from ! (stop !)) (look ! 28 refl)) (and-then ! (load ! (from ! (fld ! refl (stop !))) (look-in ! 8 (sub ! 1 refl (whole !)))) (no-more !)))) (from ! (stop !)) (init ! 30 refl (tt, (tt, (record { fits = room .0 }, tt)))) $
-          calls-look R b o ps ! fm (length ps) refl room (Take 𝓤 H A mem run) take-it (λ ν δ. (((ν ∷ [], tt), (fullShare, tt), tt, (ref b o δ ps, (k, tt)), (sv b o (length ps), (vint w8 k ∷ [], tt))), tt)) (byte ∷ []) (k, tt) ((refl, gk), tt) page (λ p. p ≡ getD ps k powerOnPage) (λ ν δ. id⊢ 𝓤 _) (λ ν δ w. id⊢ 𝓤 _)
+          calls-look R b o ps ! fm (length ps) refl room (Take 𝓤 H A mem run) take-it (λ ν δ. (((ν ∷ [], tt), (fullShare, tt), tt, (ref b o δ ps, (k, tt)), (sv b o (length ps), (vint w8 k ∷ [], tt))), tt)) (byte ∷ []) (k, tt) ((refl, gk), tt) page (λ p. p ≡ taken ps k) (λ ν δ. id⊢ 𝓤 _) (λ ν δ w. id⊢ 𝓤 _)
           (λ ν δ. (and-then ! (load ! (from ! (stop !)) (look ! 30 refl)) (and-then ! (load ! (from ! (fld ! refl (stop !))) (look-in ! 6 (sub ! 0 refl (whole !)))) (no-more !)))) (λ p gp ep.
           land ! (from ! (stop !)) (init ! 14 refl (typed 𝓤 H A W p gp .0)) $ move ! (2 ∷ 3 ∷ []) $
-          calls-shr u8 b′ o′ bs ! fm (Ask 𝓤 H A mem run) ask-it (((κ′, tt), (q′, tt), tt, (ref b′ o′ γ′ bs, tt), (sv b′ o′ (length bs), tt)), tt) [] tt tt writing (λ w. w ≡ asked bs) (id⊢ 𝓤 _) (λ v. id⊢ 𝓤 _)
-          (and-then ! (load ! (from ! (stop !)) (look ! 10 refl)) (no-more !)) (λ w gw ew.
-          land ! (from ! (stop !)) (init ! 16 refl (writing .lawful 𝓤 H A W .typed w (writing .spell w) gw .0)) $
-          calls-shr u8 b′ o′ bs ! fm (Turned 𝓤 H A mem run) decide (((κ′, tt), (q′, tt), tt, (ref b′ o′ γ′ bs, (s, (u, (p, (w, tt))))), (sv b′ o′ (length bs), (seen .spell s, (unpaged .spell u, (spell p, (writing .spell w, tt)))))), tt) (seen ∷ unpaged ∷ page ∷ writing ∷ []) (s, (u, (p, (w, tt)))) (gs, (gu, (gp, (gw, tt)))) turn
-          (λ t. ((l : List Page) → s ≡ surveyed l → t ≡ writeTurn u p (answered (device u l) (write bs)) w)) (id⊢ 𝓤 _) (λ v. id⊢ 𝓤 _)
-          (and-then ! (load ! (from ! (stop !)) (look ! 10 refl)) (and-then ! (load ! (from ! (stop !)) (look ! 12 refl)) (and-then ! (load ! (from ! (stop !)) (look ! 6 refl)) (and-then ! (load ! (from ! (stop !)) (look ! 14 refl)) (and-then ! (load ! (from ! (stop !)) (look ! 16 refl)) (no-more !)))))) (λ t gt et.
+          calls-shr u8 b′ o′ bs ! fm (Judge 𝓤 H A mem run) judge-it (((κ′, tt), (q′, tt), tt, (ref b′ o′ γ′ bs, (s, (u, tt))), (sv b′ o′ (length bs), (seen .spell s, (unpaged .spell u, tt)))), tt) (seen ∷ unpaged ∷ []) (s, (u, tt)) (gs, (gu, tt)) judged
+          (λ j. (j .answer ≡ writeAnswer (s .number) u bs) × (j .answer ≡ 0 → j .write ≡ asked bs)) (id⊢ 𝓤 _) (λ v. id⊢ 𝓤 _)
+          (and-then ! (load ! (from ! (stop !)) (look ! 10 refl)) (and-then ! (load ! (from ! (stop !)) (look ! 12 refl)) (and-then ! (load ! (from ! (stop !)) (look ! 6 refl)) (no-more !)))) (λ j gj ej.
+          let gw = LL.owed Judged.the-type Judged′.the-laws j (judged .spell j) gj .1 .0 in
+          land ! (from ! (stop !)) (init ! 16 refl (judged .lawful 𝓤 H A W .typed j (judged .spell j) gj .0)) $
+          calls-plain ! fm (Turned 𝓤 H A mem run) decide ((tt, tt, tt, (s, (u, (p, (j, tt)))), (seen .spell s, (unpaged .spell u, (spell p, (judged .spell j, tt))))), tt) (seen ∷ unpaged ∷ page ∷ judged ∷ []) (s, (u, (p, (j, tt)))) (gs, (gu, (gp, (gj, tt)))) turn
+          (λ t. t ≡ writeTurn u p (seenAnswer s u (j .answer)) (j .write)) (id⊢ 𝓤 _) (λ v. id⊢ 𝓤 _)
+          (and-then ! (load ! (from ! (stop !)) (look ! 13 refl)) (and-then ! (load ! (from ! (stop !)) (look ! 7 refl)) (and-then ! (load ! (from ! (stop !)) (look ! 15 refl)) (and-then ! (load ! (from ! (stop !)) (look ! 17 refl)) (no-more !))))) (λ t gt et.
           let fields = LL.owed Turns.the-type Turns′.the-laws t (turn .spell t) gt in
           land ! (from ! (stop !)) (init ! 18 refl (turn .lawful 𝓤 H A W .typed t (turn .spell t) gt .0)) $ move ! (2 ∷ 3 ∷ []) $
           assigns ! (addr ! (from ! (fld ! refl (hop ! (look-in ! 8 (sub ! 0 refl (whole !))) (stop !))))) (from ! (stop !)) (init ! 34 refl (tt, tt)) $
           assigns ! (agg ! (and-then ! (load ! (from ! (stop !)) (look ! 34 refl)) (and-then ! (load ! (from ! (fld ! refl (stop !))) (look-in ! 8 (sub ! 1 refl (whole !)))) (no-more !)))) (from ! (stop !)) (init ! 36 refl (tt, (tt, (record { fits = room .0 }, tt)))) $
-          calls-mut R b o ps ! fm (length ps) refl room (Put 𝓤 H A mem run) put-it (λ ν δ. (((ν ∷ [], tt), (fullShare, tt), tt, (ref b o δ ps, (k, (t .page, tt))), (sv b o (length ps), (vint w8 k ∷ [], (spell (t .page), tt)))), tt)) (byte ∷ page ∷ []) (k, (t .page, tt)) ((refl, gk), (fields .1 .0, tt)) none (λ r ys. ys ≡ set ps k (t .page)) (λ ν δ. id⊢ 𝓤 _) (λ ν δ w. id⊢ 𝓤 _)
+          calls-mut R b o ps ! fm (length ps) refl room (Put 𝓤 H A mem run) put-it (λ ν δ. (((ν ∷ [], tt), (fullShare, tt), tt, (ref b o δ ps, (k, (t .page, tt))), (sv b o (length ps), (vint w8 k ∷ [], (spell (t .page), tt)))), tt)) (byte ∷ page ∷ []) (k, (t .page, tt)) ((refl, gk), (fields .1 .0, tt)) none (λ r ys. ys ≡ putBack ps k (t .page)) (λ ν δ. id⊢ 𝓤 _) (λ ν δ w. id⊢ 𝓤 _)
           (λ ν δ. (and-then ! (load ! (from ! (stop !)) (look ! 36 refl)) (and-then ! (load ! (from ! (fld ! refl (stop !))) (look-in ! 6 (sub ! 0 refl (whole !)))) (and-then ! (load ! (from ! (fld ! refl (stop !))) (look-in ! 18 (sub ! 1 refl (whole !)))) (no-more !))))) (λ _ ys _ ey ly.
           land ! (from ! (stop !)) (init ! 32 refl (tt, tt)) $
           assigns ! (addr ! (from ! (fld ! refl (hop ! (look-in ! 8 (sub ! 0 refl (whole !))) (stop !))))) (from ! (stop !)) (init ! 38 refl (tt, tt)) $
           assigns ! (agg ! (and-then ! (load ! (from ! (stop !)) (look ! 38 refl)) (and-then ! (load ! (from ! (fld ! refl (stop !))) (look-in ! 8 (sub ! 1 refl (whole !)))) (no-more !)))) (from ! (stop !)) (init ! 40 refl (tt, (tt, (record { fits = room .0 }, tt)))) $
-          calls-mut R b o ys ! fm (length ps) ly (subst (Room R) (sym ly) room) (Sweep 𝓤 H A mem run) sweep-all (λ ν δ. (((ν ∷ [], tt), (fullShare, tt), tt, (ref b o δ ys, (w, (t .every, tt))), (sv b o (length ps), (writing .spell w, (vbool (t .every) ∷ [], tt)))), tt)) (writing ∷ flag ∷ []) (w, (t .every, tt)) (gw, (refl, tt)) flag (λ r zs. (r ≡ rising (t .every) w ys) × (zs ≡ swept (t .every) w ys)) (λ ν δ. id⊢ 𝓤 _) (λ ν δ v. id⊢ 𝓤 _)
-          (λ ν δ. (and-then ! (load ! (from ! (stop !)) (look ! 40 refl)) (and-then ! (load ! (from ! (stop !)) (look ! 16 refl)) (and-then ! (load ! (from ! (fld ! refl (stop !))) (look-in ! 18 (sub ! 2 refl (whole !)))) (no-more !))))) (λ rose zs _ ez lz.
+          calls-mut R b o ys ! fm (length ps) ly (subst (Room R) (sym ly) room) (Sweep 𝓤 H A mem run) sweep-all (λ ν δ. (((ν ∷ [], tt), (fullShare, tt), tt, (ref b o δ ys, (j .write, (t .every, tt))), (sv b o (length ps), (writing .spell (j .write), (vbool (t .every) ∷ [], tt)))), tt)) (writing ∷ flag ∷ []) (j .write, (t .every, tt)) (gw, (refl, tt)) flag (λ r zs. (r ≡ rising (t .every) (j .write) ys) × (zs ≡ swept (t .every) (j .write) ys)) (λ ν δ. id⊢ 𝓤 _) (λ ν δ v. id⊢ 𝓤 _)
+          (λ ν δ. (and-then ! (load ! (from ! (stop !)) (look ! 40 refl)) (and-then ! (load ! (from ! (fld ! refl (stop !))) (look-in ! 16 (sub ! 1 refl (whole !)))) (and-then ! (load ! (from ! (fld ! refl (stop !))) (look-in ! 18 (sub ! 2 refl (whole !)))) (no-more !))))) (λ rose zs _ ez lz.
           let l : length zs ≡ length ps = lz ∙ ly in
           land ! (from ! (stop !)) (init ! 20 refl (tt, tt)) $
           assigns ! (addr ! (from ! (fld ! refl (hop ! (look-in ! 8 (sub ! 0 refl (whole !))) (stop !))))) (from ! (stop !)) (init ! 42 refl (tt, tt)) $
@@ -183,13 +188,13 @@ module _ {M : Type 1} (𝓤 : URA M) (H : Heap 𝓤) (A : Atoms 𝓤) (W : Given
           land ! (from ! (stop !)) (init ! 4 refl (outcome .lawful 𝓤 H A W .typed r (outcome .spell r) gr .0)) $ returns ! (look ! 4 refl) $ move ! (span 4 42) $
           free-all ! (homes 𝓤 H body.locals (l0 ∷ l1 ∷ l2 ∷ l3 ∷ l4 ∷ l5 ∷ l6 ∷ l7 ∷ l8 ∷ l9 ∷ l10 ∷ l11 ∷ l12 ∷ l13 ∷ l14 ∷ l15 ∷ l16 ∷ l17 ∷ l18 ∷ l19 ∷ l20 ∷ [])) ((_ ∷ []) ∷ (_ ∷ []) ∷ (_ ∷ []) ∷ (_ ∷ []) ∷ (_ ∷ []) ∷ (_ ∷ []) ∷ (_ ∷ []) ∷ (_ ∷ []) ∷ (_ ∷ []) ∷ (_ ∷ []) ∷ (_ ∷ []) ∷ (_ ∷ []) ∷ (_ ∷ []) ∷ (_ ∷ []) ∷ (_ ∷ []) ∷ (_ ∷ []) ∷ (_ ∷ []) ∷ (_ ∷ []) ∷ (_ ∷ []) ∷ (_ ∷ []) ∷ (_ ∷ []) ∷ [])
           (by ! (exits r zs gr l (ap (λ (r′ : Outcome). beside r′ zs) er
-          ∙ write-done u ps bs p w t ys zs rose standing ep ew (et ps es) ey (ez .0) (ez .1) ev))))))))))))))))))))))))))))))))
+          ∙ write-lent u ps bs p (j .write) t ys zs rose standing ep (write-asked u s bs j (ej .0) ps es (ej .1)) (write-known u s bs j (ej .0) ps es p t et) ey (ez .0) (ez .1) ev))))))))))))))))))))))))))))))))
 
-module _ {M : Type 1} (𝓤 : URA M) (H : Heap 𝓤) (A : Atoms 𝓤) (W : Given 𝓤 H A) (mem : Memory → SProp 𝓤) (run : Routine → Fun 𝓤) (𝓣 : Tables 𝓤 H) (look-over : Triple 𝓤 (𝓣 .C #survey) (Survey 𝓤 H A mem run)) (take-it : Triple 𝓤 (𝓣 .C #take) (Take 𝓤 H A mem run)) (ask-it : Triple 𝓤 (𝓣 .C #ask) (Ask 𝓤 H A mem run)) (decide : Triple 𝓤 (𝓣 .C #turned) (Turned 𝓤 H A mem run)) (put-it : Triple 𝓤 (𝓣 .C #put) (Put 𝓤 H A mem run)) (sweep-all : Triple 𝓤 (𝓣 .C #sweep) (Sweep 𝓤 H A mem run)) (any-bit : Triple 𝓤 (𝓣 .C #any) (AnyBit 𝓤 H A mem run)) (end : Triple 𝓤 (𝓣 .C #finish) (Finish 𝓤 H A mem run)) where
+module _ {M : Type 1} (𝓤 : URA M) (H : Heap 𝓤) (A : Atoms 𝓤) (W : Given 𝓤 H A) (mem : Memory → SProp 𝓤) (run : Routine → Fun 𝓤) (𝓣 : Tables 𝓤 H) (look-over : Triple 𝓤 (𝓣 .C #survey) (Survey 𝓤 H A mem run)) (take-it : Triple 𝓤 (𝓣 .C #take) (Take 𝓤 H A mem run)) (judge-it : Triple 𝓤 (𝓣 .C #judge) (Judge 𝓤 H A mem run)) (decide : Triple 𝓤 (𝓣 .C #turned) (Turned 𝓤 H A mem run)) (put-it : Triple 𝓤 (𝓣 .C #put) (Put 𝓤 H A mem run)) (sweep-all : Triple 𝓤 (𝓣 .C #sweep) (Sweep 𝓤 H A mem run)) (any-bit : Triple 𝓤 (𝓣 .C #any) (AnyBit 𝓤 H A mem run)) (end : Triple 𝓤 (𝓣 .C #finish) (Finish 𝓤 H A mem run)) where
   f-walks : Walks 𝓤 H A f.ended stayed (WpFn 𝓤 H (𝓣 .C) (𝓣 .Λ) code.function) (f.clauses 𝓤 H A mem run)
   f-walks = walked 𝓤 H A f.ended stayed (f.clauses 𝓤 H A mem run) (WpFn 𝓤 H (𝓣 .C) (𝓣 .Λ) code.function) (λ κs. (unpaged .spell, (slice-vals, (slice-vals, tt)))) (λ κs. (unpaged .tells, (mut-slice-tells (named 0) (κs .0) R, (shr-slice-tells (named 1) (κs .1 .0) u8, tt))))
       (λ κs qs bounds a g are. via 𝓤 _ (fst∗ 𝓤 _ (emp 𝓤))
-      (walk 𝓤 H A W mem run (κs .0) (κs .1 .0) (qs .0) (qs .1 .0) (a .1 .0 .ptr .0) (a .1 .0 .ptr .1) (a .1 .1 .0 .ptr .0) (a .1 .1 .0 .ptr .1) (a .1 .0 .name) (a .1 .1 .0 .name) (a .0) (a .1 .0 .now) (a .1 .1 .0 .now) (are .0) (are .1 .0 .0 .1) (are .1 .1 .0 .0 .1) (𝓣 .C) (𝓣 .Λ) (fmOf 𝓤 H (W .laws) 𝓣) look-over take-it ask-it decide put-it sweep-all any-bit end))
+      (walk 𝓤 H A W mem run (κs .0) (κs .1 .0) (qs .0) (qs .1 .0) (a .1 .0 .ptr .0) (a .1 .0 .ptr .1) (a .1 .1 .0 .ptr .0) (a .1 .1 .0 .ptr .1) (a .1 .0 .name) (a .1 .1 .0 .name) (a .0) (a .1 .0 .now) (a .1 .1 .0 .now) (are .0) (are .1 .0 .0 .1) (are .1 .1 .0 .0 .1) (𝓣 .C) (𝓣 .Λ) (fmOf 𝓤 H (W .laws) 𝓣) look-over take-it judge-it decide put-it sweep-all any-bit end))
 
   f-meets : Meets 𝓤 H A f.signature (WpFn 𝓤 H (𝓣 .C) (𝓣 .Λ) code.function) (f.spec 𝓤 H A mem run)
   f-meets = walk-meets 𝓤 H A f.ended stayed W (goes-none 𝓤 H A W 2 (λ _. unpaged .row) yes (λ κs x f. refl), (goes-slice 𝓤 H A W 2 0 tt (plain (λ _. R)), (goes-none-slice 𝓤 H A W 2 (1 ∷ []) tt (plain (λ _. u8)) yes, tt))) (f.clauses 𝓤 H A mem run) (WpFn 𝓤 H (𝓣 .C) (𝓣 .Λ) code.function) (WpFn-mono 𝓤 H (W .laws) 𝓣 code.function) f-walks
@@ -202,7 +207,7 @@ tongsorrel-lent-write-spec 𝓤 H 𝓜 𝓖 𝓡 =
     (f-meets 𝓤 H (𝓖 .A) (givenOf 𝓤 H 𝓜 𝓖) (𝓜 .mem) (𝓡 .run) (tablesOf 𝓤 H 𝓜 (tables 𝓤 H 𝓜 𝓡 code.env))
     (cited 𝓤 H (Survey 𝓤 H (𝓖 .A) (𝓜 .mem) (𝓡 .run)) 𝓜 𝓡 code.env #survey survey-def.routine code.calls-records·survey (survey-thm.met 𝓤 H 𝓜 𝓖 𝓡))
     (cited 𝓤 H (Take 𝓤 H (𝓖 .A) (𝓜 .mem) (𝓡 .run)) 𝓜 𝓡 code.env #take take-def.routine code.calls-records·take (take-thm.met 𝓤 H 𝓜 𝓖 𝓡))
-    (cited 𝓤 H (Ask 𝓤 H (𝓖 .A) (𝓜 .mem) (𝓡 .run)) 𝓜 𝓡 code.env #ask ask-def.routine code.calls-writes·asked·asked (ask-thm.met 𝓤 H 𝓜 𝓖 𝓡))
+    (cited 𝓤 H (Judge 𝓤 H (𝓖 .A) (𝓜 .mem) (𝓡 .run)) 𝓜 𝓡 code.env #judge judge-def.routine code.calls-lent·turns·judged (judge-thm.met 𝓤 H 𝓜 𝓖 𝓡))
     (cited 𝓤 H (Turned 𝓤 H (𝓖 .A) (𝓜 .mem) (𝓡 .run)) 𝓜 𝓡 code.env #turned turned-def.routine code.calls-lent·turns·write-turn (turned-thm.met 𝓤 H 𝓜 𝓖 𝓡))
     (cited 𝓤 H (Put 𝓤 H (𝓖 .A) (𝓜 .mem) (𝓡 .run)) 𝓜 𝓡 code.env #put put-def.routine code.calls-records·put (put-thm.met 𝓤 H 𝓜 𝓖 𝓡))
     (cited 𝓤 H (Sweep 𝓤 H (𝓖 .A) (𝓜 .mem) (𝓡 .run)) 𝓜 𝓡 code.env #sweep sweep-def.routine code.calls-lent·every·every (sweep-thm.met 𝓤 H 𝓜 𝓖 𝓡))

@@ -1,12 +1,13 @@
 -- `buffer::calls::alert` meets its contract.
 -- Assumes nothing.
+use Rattle.layout.specs.Layout.{size}
 use lib.ListN.{length}
 use borrow.Author.Tests.{eq-eqb, ne-eqb}
 use mathlib.Core.Path.{sym, ap, _∙_}
 use mathlib.Core.Bool.{cond}
 use Rattle.unpaged.specs.declared.Unpaged.{Unpaged}
+use Rattle.layout.proofs.Decoded.{unpaged-of}
 use Rattle.buffer.specs.Buffer.{bufferAlert}
-use Rattle.buffer.proofs.Held.{unpaged-of}
 use native.Mathlib.Omega.{arith}
 use borrow.Author.Needs.{needs}
 use Rattle.buffer.proofs.calls.alert.Statement.{statement}
@@ -14,7 +15,7 @@ use Rattle.buffer.proofs.calls.alert.Tie as tie
 
 returns : tie.Need-returns
 unfolding bufferAlert
-returns c = rw (ne-eqb (length (c .before .before .args .s .now)) 466 (λ e. omega arith))
+returns c = rw (ne-eqb (length (c .before .before .args .s .now)) size (λ e. omega arith))
 
 load-unpaged-requires : tie.Need-load-unpaged-requires
 load-unpaged-requires c κs = search needs
@@ -25,7 +26,7 @@ byte-of-requires c κs = search needs
 returns-2 : tie.Need-returns-2
 unfolding bufferAlert
 returns-2 c =
-    rw (eq-eqb (length (c .before .before .before .before .args .s .now)) 466 (search needs))
+    rw (eq-eqb (length (c .before .before .before .before .args .s .now)) size (search needs))
     (c .byte-of .ensures ∙ ap (λ (u : Unpaged). cond (u .alert) 1 0) (c .before .load-unpaged .ensures ∙ sym (unpaged-of _)))
 
 pub alert-spec : {M : Type 1} → statement M

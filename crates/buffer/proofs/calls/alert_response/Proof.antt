@@ -2,7 +2,7 @@
 -- Assumes nothing.
 use mathlib.Core.Path.{refl, _∙_}
 use Rattle.device.specs.Step.{alertResponse}
-use Rattle.history.specs.Pages.{touches}
+use Rattle.device.specs.Touches.{touches}
 use Rattle.buffer.specs.Buffer.{callSends}
 use Rattle.buffer.proofs.Held.{was-ready, was-not, was-held, call-refused, call-taken}
 use Rattle.buffer.proofs.Stored.{unpaged-alone, untouched}

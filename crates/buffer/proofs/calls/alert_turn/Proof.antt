@@ -1,6 +1,7 @@
 -- `buffer::calls::alert_turn` meets its contract.
 -- Assumes nothing.
 use mathlib.Core.Path.{_∙_}
+use Rattle.lent.proofs.Known.{alert-known}
 use Rattle.buffer.proofs.Calling.{alert-made}
 use borrow.Author.Needs.{needs}
 use Rattle.buffer.proofs.calls.alert_turn.Statement.{statement}
@@ -16,7 +17,7 @@ alert-turn-requires : tie.Need-alert-turn-requires
 alert-turn-requires c κs = search needs
 
 returns : tie.Need-returns
-returns c = alert-made _ (c .before .before .before .before .pre) _ (c .before .before .load-unpaged .ensures) (c .before .before .before .before .args .n) _ (λ ps e. (c .«alert-turn» .ensures) ps (c .before .«eight-valid» .ensures ∙ e))
+returns c = alert-made _ (c .before .before .before .before .pre) _ (c .before .before .load-unpaged .ensures) (c .before .before .before .before .args .n) _ (λ ps e. alert-known _ _ _ _ (c .«alert-turn» .ensures) ps (c .before .«eight-valid» .ensures ∙ e))
 
 pub alert-turn-spec : {M : Type 1} → statement M
 alert-turn-spec =

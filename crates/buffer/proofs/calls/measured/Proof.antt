@@ -1,6 +1,7 @@
 -- `buffer::calls::measured` meets its contract.
 -- Assumes nothing.
 use mathlib.Core.Path.{_∙_}
+use Rattle.lent.proofs.Known.{measure-known}
 use Rattle.buffer.proofs.Calling.{measured-made}
 use native.Mathlib.Omega.{arith}
 use borrow.Author.Needs.{needs}
@@ -30,7 +31,7 @@ same-length c = search needs
 
 returns : tie.Need-returns
 returns c =
-    measured-made _ (c .before .before .before .before .before .before .before .before .before .before .before .before .before .before .before .before .before .before .before .pre) _ (c .before .before .before .before .before .before .before .before .before .before .before .before .before .before .before .before .load-unpaged .ensures) _ _ _ _ _ (c .before .before .before .before .before .before .before .before .before .before .before .before .before .before .page-at .ensures) (λ ps e. (c .before .before .before .before .before .before .before .before .before .before .before .before .«measure-turn» .ensures) ps (c .before .before .before .before .before .before .before .before .before .before .before .before .before .«eight-valid» .ensures ∙ e)) _ _ (c .before .before .before .before .before .before .put-page .ensures) (c .before .before .save-unpaged .ensures)
+    measured-made _ (c .before .before .before .before .before .before .before .before .before .before .before .before .before .before .before .before .before .before .before .pre) _ (c .before .before .before .before .before .before .before .before .before .before .before .before .before .before .before .before .load-unpaged .ensures) _ _ _ _ _ (c .before .before .before .before .before .before .before .before .before .before .before .before .before .before .page-at .ensures) (λ ps e. measure-known _ _ _ _ _ _ _ (c .before .before .before .before .before .before .before .before .before .before .before .before .«measure-turn» .ensures) ps (c .before .before .before .before .before .before .before .before .before .before .before .before .before .«eight-valid» .ensures ∙ e)) _ _ (c .before .before .before .before .before .before .put-page .ensures) (c .before .before .save-unpaged .ensures)
 
 pub measured-spec : {M : Type 1} → statement M
 measured-spec =

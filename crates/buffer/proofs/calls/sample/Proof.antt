@@ -1,8 +1,8 @@
 -- `buffer::calls::sample` meets its contract.
 -- Assumes nothing.
 use Rattle.device.specs.Step.{sample}
+use Rattle.device.specs.Touches.{touches}
 use mathlib.Core.Path.{refl, _∙_}
-use Rattle.history.specs.Pages.{touches}
 use Rattle.buffer.proofs.Held.{was-ready, was-not, was-held, call-refused, call-taken}
 use Rattle.buffer.proofs.Stored.{unpaged-alone, untouched}
 use borrow.Author.Needs.{needs}

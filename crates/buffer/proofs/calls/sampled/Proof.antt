@@ -2,6 +2,7 @@
 -- Assumes nothing.
 use mathlib.Core.Path.{_∙_}
 use Rattle.device.specs.Step.{sample}
+use Rattle.lent.proofs.Known.{sample-known}
 use Rattle.buffer.proofs.Calling.{kept-outcome, answer-is, unpaged-stored}
 use borrow.Author.Needs.{needs}
 use Rattle.buffer.proofs.calls.sampled.Statement.{statement}
@@ -25,7 +26,7 @@ same-length c = search needs
 returns : tie.Need-returns
 returns c =
     let e =
-    kept-outcome _ (c .before .before .before .before .before .before .before .before .before .before .pre) _ (c .before .before .before .before .before .before .before .load-unpaged .ensures) (sample (c .before .before .before .before .before .before .before .before .before .before .args .power)) _ (λ ps f. (c .before .before .before .before .before .«sample-outcome» .ensures) ps (c .before .before .before .before .before .before .«eight-valid» .ensures ∙ f)) in
+    kept-outcome _ (c .before .before .before .before .before .before .before .before .before .before .pre) _ (c .before .before .before .before .before .before .before .load-unpaged .ensures) (sample (c .before .before .before .before .before .before .before .before .before .before .args .power)) _ (λ ps f. sample-known _ _ _ _ (c .before .before .before .before .before .«sample-outcome» .ensures) ps (c .before .before .before .before .before .before .«eight-valid» .ensures ∙ f)) in
     (answer-is _ _ _ _ e, unpaged-stored _ _ _ _ e _ _ (c .before .before .save-unpaged .ensures))
 
 pub sampled-spec : {M : Type 1} → statement M

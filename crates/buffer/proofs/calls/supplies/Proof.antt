@@ -1,5 +1,6 @@
 -- `buffer::calls::supplies` meets its contract.
 -- Assumes nothing.
+use Rattle.layout.specs.Layout.{size}
 use lib.ListN.{length}
 use borrow.Author.Tests.{eq-eqb, ne-eqb}
 use mathlib.Core.Path.{ap, _∙_}
@@ -12,7 +13,7 @@ use Rattle.buffer.proofs.calls.supplies.Tie as tie
 
 returns : tie.Need-returns
 unfolding bufferSupplies
-returns c = rw (ne-eqb (length (c .before .before .args .s .now)) 466 (λ e. omega arith))
+returns c = rw (ne-eqb (length (c .before .before .args .s .now)) size (λ e. omega arith))
 
 supplying-requires : tie.Need-supplying-requires
 supplying-requires c κs = search needs
@@ -22,7 +23,7 @@ byte-of-requires c κs = search needs
 
 returns-2 : tie.Need-returns-2
 unfolding bufferSupplies
-returns-2 c = rw (eq-eqb (length (c .before .before .before .before .args .s .now)) 466 (search needs)) (c .byte-of .ensures ∙ ap (λ (b : Bool). cond b 1 0) (c .before .supplying .ensures))
+returns-2 c = rw (eq-eqb (length (c .before .before .before .before .args .s .now)) size (search needs)) (c .byte-of .ensures ∙ ap (λ (b : Bool). cond b 1 0) (c .before .supplying .ensures))
 
 pub supplies-spec : {M : Type 1} → statement M
 supplies-spec = tie.close (tie.spec returns supplying-requires byte-of-requires returns-2)

@@ -8,17 +8,11 @@ use Rattle.buffer.proofs.steps.reply.Tie as tie
 load-unpaged-requires : tie.Need-load-unpaged-requires
 load-unpaged-requires c κs = search needs
 
-cast-k : tie.Need-cast-k
-cast-k c = search needs
+shown-requires : tie.Need-shown-requires
+shown-requires c κs = search needs
 
-mul-o : tie.Need-mul-o
-mul-o c = search needs
-
-add-o : tie.Need-add-o
-add-o c = search needs
-
-load-page-requires : tie.Need-load-page-requires
-load-page-requires c κs = search needs
+page-at-requires : tie.Need-page-at-requires
+page-at-requires c κs = search needs
 
 shared-slice-read-e : tie.Need-shared-slice-read-e
 shared-slice-read-e c = search needs
@@ -42,17 +36,18 @@ reply-requires : tie.Need-reply-requires
 reply-requires c κs = search needs
 
 returns : tie.Need-returns
-returns c = reply-is _ (c .before .before .before .before .before .before .before .pre) _ _ _ (c .before .before .before .before .before .load-unpaged .ensures) (c .before .before .before .load-page .ensures) (c .reply .ensures)
+returns c =
+    let page = c .before .before .before in
+    reply-is _ (page .before .before .before .before .pre) _ _ _ _ (page .before .before .load-unpaged .ensures) (page .before .shown .ensures)
+    (page .page-at .ensures) (c .reply .ensures)
 
 pub reply-spec : {M : Type 1} → statement M
 reply-spec =
     tie.close
     (tie.spec
     load-unpaged-requires
-    cast-k
-    mul-o
-    add-o
-    load-page-requires
+    shown-requires
+    page-at-requires
     shared-slice-read-e
     cast-e
     add-e

@@ -12,17 +12,17 @@ load-unpaged-requires c κs = search needs
 page-at-requires : tie.Need-page-at-requires
 page-at-requires c κs = search needs
 
-asked-by-requires : tie.Need-asked-by-requires
-asked-by-requires c κs = search needs
+judged-requires : tie.Need-judged-requires
+judged-requires c κs = search needs
 
-write-turn-requires : tie.Need-write-turn-requires
-write-turn-requires c κs = search needs
+write-left-requires : tie.Need-write-left-requires
+write-left-requires c κs = search needs
 
 put-page-requires : tie.Need-put-page-requires
 put-page-requires c κs = search needs
 
 every-requires : tie.Need-every-requires
-every-requires c κs = search needs
+every-requires c κs = let l = c .before .before .before .before .before .before .before .before .before .before .before .before .before .before .before .pre .long in omega arith
 
 any-bit-requires : tie.Need-any-bit-requires
 any-bit-requires c κs = let l = c .before .before .before .before .before .before .before .before .before .before .before .before .before .before .before .before .before .before .before .pre .long in omega arith
@@ -38,8 +38,8 @@ same-length c = search needs
 
 returns : tie.Need-returns
 returns c =
-    let ended = written-made _ (c .before .before .before .before .before .before .before .before .before .before .before .before .before .before .before .before .before .before .before .before .before .before .before .before .before .before .pre) _ (c .before .before .before .before .before .before .before .before .before .before .before .before .before .before .before .before .before .before .before .before .before .before .before .load-unpaged .ensures) _ _ _ _ _ _ _ _ _ (c .before .before .before .before .before .before .before .before .before .before .before .before .before .before .before .before .before .before .before .before .before .page-at .ensures) (c .before .before .before .before .before .before .before .before .before .before .before .before .before .before .before .before .before .before .before .before .«asked-by» .ensures)
-    (c .before .before .before .before .before .before .before .before .before .before .before .before .before .before .before .before .before .before .before .«write-turn» .ensures) (c .before .before .before .before .before .before .before .before .before .before .before .before .before .before .put-page .ensures) (c .before .before .before .before .before .before .before .before .before .before .every .ensures .0) (c .before .before .before .before .before .before .before .before .before .before .every .ensures .1) (c .before .before .before .before .before .before .any-bit .ensures) (c .before .before .before .before .before .finished .ensures) in
+    let ended = written-made _ (c .before .before .before .before .before .before .before .before .before .before .before .before .before .before .before .before .before .before .before .before .before .before .before .before .before .before .pre) _ (c .before .before .before .before .before .before .before .before .before .before .before .before .before .before .before .before .before .before .before .before .before .before .before .load-unpaged .ensures) _ _ _ _ _ _ _ _ _ (c .before .before .before .before .before .before .before .before .before .before .before .before .before .before .before .before .before .before .before .before .before .page-at .ensures) (c .before .before .before .before .before .before .before .before .before .before .before .before .before .before .before .before .before .before .before .before .judged .ensures)
+    (c .before .before .before .before .before .before .before .before .before .before .before .before .before .before .before .before .before .before .before .write-left .ensures) (c .before .before .before .before .before .before .before .before .before .before .before .before .before .before .put-page .ensures) (c .before .before .before .before .before .before .before .before .before .before .every .ensures .0) (c .before .before .before .before .before .before .before .before .before .before .every .ensures .1) (c .before .before .before .before .before .before .any-bit .ensures) (c .before .before .before .before .before .finished .ensures) in
     ended _ (c .before .before .save-unpaged .ensures)
 
 pub written-spec : {M : Type 1} → statement M
@@ -48,8 +48,8 @@ written-spec =
     (tie.spec
     load-unpaged-requires
     page-at-requires
-    asked-by-requires
-    write-turn-requires
+    judged-requires
+    write-left-requires
     put-page-requires
     every-requires
     any-bit-requires

@@ -8,12 +8,9 @@ use Rattle.bus.proofs.ack.known.Tie as tie
 lookup-requires : tie.Need-lookup-requires
 lookup-requires c κs = search needs
 
-listed-requires : tie.Need-listed-requires
-listed-requires c κs = search needs
-
 returns : tie.Need-returns
 unfolding known
 returns c = cc
 
 pub known-spec : {M : Type 1} → statement M
-known-spec = tie.close (tie.spec lookup-requires listed-requires returns)
+known-spec = tie.close (tie.spec lookup-requires returns)

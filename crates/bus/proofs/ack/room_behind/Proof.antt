@@ -11,9 +11,6 @@ shared-slice-read-lookup c = search needs
 lookup-requires : tie.Need-lookup-requires
 lookup-requires c κs = search needs
 
-listed-requires : tie.Need-listed-requires
-listed-requires c κs = search needs
-
 cast-result : tie.Need-cast-result
 cast-result c = search needs
 
@@ -30,7 +27,6 @@ room-behind-spec =
     (tie.spec
     shared-slice-read-lookup
     lookup-requires
-    listed-requires
     cast-result
     add-result
     returns)

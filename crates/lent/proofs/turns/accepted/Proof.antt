@@ -5,8 +5,8 @@ use borrow.Author.Needs.{needs}
 use Rattle.lent.proofs.turns.accepted.Statement.{statement}
 use Rattle.lent.proofs.turns.accepted.Tie as tie
 
-page-left-requires : tie.Need-page-left-requires
-page-left-requires c κs = search needs
+one-left-requires : tie.Need-one-left-requires
+one-left-requires c κs = search needs
 
 unpaged-left-requires : tie.Need-unpaged-left-requires
 unpaged-left-requires c κs = search needs
@@ -20,10 +20,10 @@ clears-requires c κs = search needs
 returns : tie.Need-returns
 unfolding acceptedTurn
 returns c =
-    let risen = c .before .before .before in
-    simp (c .clears .ensures, risen .risen .ensures, risen .before .unpaged-left .ensures, risen .before .before .page-left .ensures)
+    let risen = c .before .before in
+    simp (c .clears .ensures, risen .risen .ensures, risen .before .unpaged-left .ensures, risen .before .before .one-left .ensures)
 
 pub accepted-spec : {M : Type 1} → statement M
 accepted-spec =
     tie.close
-    (tie.spec page-left-requires unpaged-left-requires risen-requires clears-requires returns)
+    (tie.spec one-left-requires unpaged-left-requires risen-requires clears-requires returns)

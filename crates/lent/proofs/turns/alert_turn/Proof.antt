@@ -1,11 +1,6 @@
 -- `lent::turns::alert_turn` meets its contract.
 -- Assumes nothing.
-use mathlib.Core.Path.{refl}
-use Rattle.device.specs.Device.{device}
-use Rattle.device.specs.Step.{alertResponse, answerOf, sent}
-use Rattle.device.proofs.Calls.{replied, alert-bytes}
-use Rattle.lent.proofs.Known.{answer-is}
-use Rattle.lent.proofs.Outcomes.{alert-done}
+use Rattle.lent.specs.Lent.{alertTurn}
 use borrow.Author.Needs.{needs}
 use Rattle.lent.proofs.turns.alert_turn.Statement.{statement}
 use Rattle.lent.proofs.turns.alert_turn.Tie as tie
@@ -23,15 +18,10 @@ alert-down-requires : tie.Need-alert-down-requires
 alert-down-requires c κs = search needs
 
 returns : tie.Need-returns
-unfolding answerOf sent
-returns c = λ ps e.
-    let start = c .before .before .before .before in
-    let a = start .args in
-    let d = device (a .u) ps in
-    let answered-is = answer-is d (alertResponse (a .n)) _ _ (c .before .before .answered .ensures ps e) (λ v. c .before .before .before .alert-answer .ensures) in (
-      rw (c .alert-down .ensures) (alert-done (a .u) ps (a .n) _ answered-is),
-      replied d (alertResponse (a .n)) _ _ _ answered-is (c .before .alert-stream .ensures) refl (alert-bytes d (a .n) _),
-    )
+unfolding alertTurn
+returns c =
+    let sends = c .before in
+    simp (c .alert-down .ensures, sends .alert-stream .ensures, sends .before .answered .ensures, sends .before .before .alert-answer .ensures)
 
 pub alert-turn-spec : {M : Type 1} → statement M
 alert-turn-spec =

@@ -1,6 +1,7 @@
 -- `lent::turns::state_valid` meets its contract.
 -- Assumes nothing.
-use Rattle.lent.proofs.Known.{valid-is}
+use Rattle.device.specs.Device.{supported}
+use Rattle.lent.specs.Lent.{seenValid}
 use borrow.Author.Needs.{needs}
 use Rattle.lent.proofs.turns.state_valid.Statement.{statement}
 use Rattle.lent.proofs.turns.state_valid.Tie as tie
@@ -9,7 +10,8 @@ unpaged-valid-requires : tie.Need-unpaged-valid-requires
 unpaged-valid-requires c κs = search needs
 
 returns : tie.Need-returns
-returns c = λ ps e. rw (c .before .unpaged-valid .ensures) (valid-is _ ps _ e)
+unfolding seenValid supported
+returns c = rw (c .before .unpaged-valid .ensures)
 
 pub state-valid-spec : {M : Type 1} → statement M
 state-valid-spec = tie.close (tie.spec unpaged-valid-requires returns)

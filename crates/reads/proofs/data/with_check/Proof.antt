@@ -7,7 +7,9 @@ use mathlib.Core.List.{List, [], _∷_, _++_}
 use native.Mathlib.Omega.{arith}
 use lib.ListN.{length, take, set}
 use lib.Seq.{length-take-le}
-use Rattle.pec.specs.Pec.{pec, pecFrom, pecByte}
+use denote.Ref.{now}
+use Rattle.pec.specs.Pec.{pec, pecFrom}
+use Rattle.pec.proofs.Laws.{pec-append}
 use Rattle.reads.specs.declared.reply.Stream.{Stream}
 use Rattle.reads.specs.Reply.{stream, streamOf}
 use Rattle.reads.specs.Data.{checked}
@@ -16,33 +18,28 @@ use Rattle.reads.proofs.data.with_check.Statement.{statement}
 use Rattle.reads.proofs.data.with_check.Tie as tie
 
 -- the check k, carried on from the header, stands behind the data
-appended : (s : Stream) (code h₁ h₂ h₃ k : ℕ) → s ≡ stream (streamOf s) → s .length < 8
-    → h₁ ≡ pecByte 0 0xC0 → h₂ ≡ pecByte h₁ code → h₃ ≡ pecByte h₂ 0xC1 → k ≡ pecFrom h₃ (streamOf s)
-    → record { bytes = set (s .bytes) (s .length) k; length = s .length + 1 } ≡ stream (checked code (streamOf s))
-unfolding checked pec pecFrom
-appended s code h₁ h₂ h₃ k made short e₁ e₂ e₃ e =
-    with-one-more s (streamOf s) made short k ∙ ap (λ (x : ℕ). stream (streamOf s ++ (x ∷ []))) (cc)
+appended : (s : Stream) (header : List ℕ) (h k : ℕ) → s ≡ stream (streamOf s) → s .length < 8
+    → h ≡ pec header → k ≡ pecFrom h (streamOf s)
+    → record { bytes = set (s .bytes) (s .length) k; length = s .length + 1 } ≡ stream (checked header (streamOf s))
+unfolding checked pec
+appended s header h k made short start e =
+    with-one-more s (streamOf s) made short k
+    ∙ ap (λ (x : ℕ). stream (streamOf s ++ (x ∷ []))) (e ∙ rw start (sym (pec-append 0 header (streamOf s))))
 
 cast-n : tie.Need-cast-n
 cast-n c = search needs
 
-pec-byte-requires : tie.Need-pec-byte-requires
-pec-byte-requires c κs = search needs
-
-pec-byte-requires-2 : tie.Need-pec-byte-requires-2
-pec-byte-requires-2 c κs = search needs
-
-pec-byte-requires-3 : tie.Need-pec-byte-requires-3
-pec-byte-requires-3 c κs = search needs
+pec-requires : tie.Need-pec-requires
+pec-requires c κs = search needs
 
 array-share-prefix-bytes : tie.Need-array-share-prefix-bytes
 array-share-prefix-bytes c =
-    let l : length (c .before .before .before .before .before .args .body .bytes) ≡ 8 = search needs in
+    let l : length (c .before .before .before .before .args .body .bytes) ≡ 8 = search needs in
     omega arith
 
 slice-aggregate-pec-from : tie.Need-slice-aggregate-pec-from
 slice-aggregate-pec-from c =
-    let a = c .before .before .before .before .before .before .args in
+    let a = c .before .before .before .before .before .args in
     let l : length (a .body .bytes) ≡ 8 = search needs in
     sym (length-take-le (a .body .length) (a .body .bytes) (omega arith))
 
@@ -57,19 +54,16 @@ add-f c = search needs
 
 returns : tie.Need-returns
 returns c =
-    let start = c .before .before .before .before .before .before .before .before in
+    let start = c .before .before .before .before .before .before .before in
     let a = start .args in
-    appended (a .body) (a .code) _ _ _ _ (start .pre .0) (start .pre .1) (c .before .before .before .before .before .pec-byte .ensures)
-    (c .before .before .before .before .pec-byte2 .ensures) (c .before .before .before .pec-byte3 .ensures) (c .before .pec-from .ensures)
+    appended (a .body) (now (a .header)) _ _ (start .pre .0) (start .pre .1) (c .before .before .before .pec .ensures) (c .before .pec-from .ensures)
 
 pub with-check-spec : {M : Type 1} → statement M
 with-check-spec =
     tie.close
     (tie.spec
     cast-n
-    pec-byte-requires
-    pec-byte-requires-2
-    pec-byte-requires-3
+    pec-requires
     array-share-prefix-bytes
     slice-aggregate-pec-from
     pec-from-requires

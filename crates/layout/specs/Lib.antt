@@ -1,0 +1,4 @@
+pub mod Form
+pub mod Layout
+pub mod State
+pub mod Private
