@@ -1,38 +1,43 @@
 /* A board without hardware: plays a short script of events, and prints what the firmware sends and what its pins do. */
 #include "board.h"
+#include "tongsorrel.h"
 
 #include <stdio.h>
+
+#define WRITE(code, data) {.kind = BOARD_WRITE, .bytes = {TONGSORREL_ADDRESS_WRITE, code, data}, .length = 3}
+#define READ(code) {.kind = BOARD_READ, .bytes = {TONGSORREL_ADDRESS_WRITE, code, TONGSORREL_ADDRESS_READ}, .length = 3}
+#define VOUT(word_of_it) {.kind = BOARD_MEASUREMENT, .page = 0, .quantity = TONGSORREL_VOUT, .word = word_of_it}
 
 static const struct line {
     const char *says;
     board_event event;
     size_t clocked;
 } script[] = {
-    {"OPERATION on", {.kind = BOARD_WRITE, .bytes = {0xC0, 0x01, 0x80}, .length = 3}, 0},
-    {"VOUT 1.2 V", {.kind = BOARD_MEASUREMENT, .page = 0, .quantity = 0, .word = 0x2666}, 0},
+    {"OPERATION on", WRITE(TONGSORREL_CODE_OPERATION, TONGSORREL_OPERATION_ON), 0},
+    {"VOUT 1.2 V", VOUT(0x2666), 0},
     {"a power sample of 1000", {.kind = BOARD_SAMPLE, .word = 1000}, 0},
-    {"VOUT over its limit", {.kind = BOARD_MEASUREMENT, .page = 0, .quantity = 0, .word = 0x2A3E}, 0},
+    {"VOUT over its limit", VOUT(0x2A3E), 0},
     {"alert response", {.kind = BOARD_ALERT_RESPONSE}, 1},
-    {"read STATUS_WORD with PEC", {.kind = BOARD_READ, .bytes = {0xC0, 0x79, 0xC1}, .length = 3}, 3},
-    {"read READ_EIN with PEC", {.kind = BOARD_READ, .bytes = {0xC0, 0x86, 0xC1}, .length = 3}, 8},
-    {"VOUT 1.2 V", {.kind = BOARD_MEASUREMENT, .page = 0, .quantity = 0, .word = 0x2666}, 0},
-    {"OPERATION off", {.kind = BOARD_WRITE, .bytes = {0xC0, 0x01, 0x00}, .length = 3}, 0},
-    {"OPERATION on", {.kind = BOARD_WRITE, .bytes = {0xC0, 0x01, 0x80}, .length = 3}, 0},
-    {"CLEAR_FAULTS", {.kind = BOARD_WRITE, .bytes = {0xC0, 0x03}, .length = 2}, 0},
-    {"response: two retries, delay 1", {.kind = BOARD_WRITE, .bytes = {0xC0, 0x41, 0x91}, .length = 3}, 0},
-    {"VOUT over its limit", {.kind = BOARD_MEASUREMENT, .page = 0, .quantity = 0, .word = 0x2A3E}, 0},
+    {"read STATUS_WORD with PEC", READ(TONGSORREL_CODE_STATUS_WORD), 3},
+    {"read READ_EIN with PEC", READ(TONGSORREL_CODE_READ_EIN), 8},
+    {"VOUT 1.2 V", VOUT(0x2666), 0},
+    {"OPERATION off", WRITE(TONGSORREL_CODE_OPERATION, TONGSORREL_OPERATION_OFF), 0},
+    {"OPERATION on", WRITE(TONGSORREL_CODE_OPERATION, TONGSORREL_OPERATION_ON), 0},
+    {"CLEAR_FAULTS", {.kind = BOARD_WRITE, .bytes = {TONGSORREL_ADDRESS_WRITE, TONGSORREL_CODE_CLEAR_FAULTS}, .length = 2}, 0},
+    {"response: two retries, delay 1", WRITE(TONGSORREL_CODE_VOUT_OV_FAULT_RESPONSE, TONGSORREL_SHUT_DOWN | TONGSORREL_RETRIES(2) | 1), 0},
+    {"VOUT over its limit", VOUT(0x2A3E), 0},
     {"tick", {.kind = BOARD_TICK}, 0},
     {"tick", {.kind = BOARD_TICK}, 0},
-    {"VOUT 1.2 V", {.kind = BOARD_MEASUREMENT, .page = 0, .quantity = 0, .word = 0x2666}, 0},
+    {"VOUT 1.2 V", VOUT(0x2666), 0},
     {"tick", {.kind = BOARD_TICK}, 0},
     {"tick", {.kind = BOARD_TICK}, 0},
-    {"read STATUS_WORD, 20 bytes", {.kind = BOARD_READ, .bytes = {0xC0, 0x79, 0xC1}, .length = 3}, 20},
+    {"read STATUS_WORD, 20 bytes", READ(TONGSORREL_CODE_STATUS_WORD), 20},
 };
 
-enum { LINES = sizeof script / sizeof script[0], PAGES = 8 };
+enum { LINES = sizeof script / sizeof script[0] };
 
 static size_t next;
-static bool smbalert, on[PAGES];
+static bool smbalert, on[TONGSORREL_PAGES];
 
 bool board_wait(board_event *event) {
     if (next == LINES) return false;

@@ -4,8 +4,8 @@
 
 static uint8_t state[TONGSORREL_STREAM_SIZE];
 
-/* After each call that may change the device: SMBALERT# and the supplies' switches follow. Answer 15 comes only if memory was damaged (17.11):
- * then power-on, and the host, which had NACK for all its bytes, tries again. */
+/* After each call that may change the device: SMBALERT# and the supplies' switches follow. Answer 15 comes only if memory was damaged
+ * (17.11): then power-on, and the host, which had NACK for all its bytes, tries again. */
 static void settle(uint8_t answer) {
     if (answer == TONGSORREL_INVALID_STATE) tongsorrel_stream_power_on(state, sizeof state);
     board_smbalert(tongsorrel_stream_alert(state, sizeof state));
@@ -40,8 +40,8 @@ static uint8_t call(const board_work *work) {
     }
 }
 
-/* The buffer is lent to one call at a time, so the bus interrupt is held back while the main loop uses it. It may come between any two calls,
- * in the middle of a transaction too (17.7). Interrupts of one priority need no mask. */
+/* The buffer is lent to one call at a time, so the bus interrupt is held back while the main loop uses it. It may come between any two
+ * calls, in the middle of a transaction too (17.7). Interrupts of one priority need no mask. */
 int main(void) {
     bus_mask(true);
     settle(tongsorrel_stream_power_on(state, sizeof state));

@@ -1,4 +1,4 @@
-/* The main loop of a shelf's firmware: bus, converters and meter come in as events, SMBALERT# and the supplies' switches follow the state. */
+/* The main loop of a shelf's firmware: bus, converters and meter come in as events; SMBALERT# and the supplies' switches follow. */
 #include "board.h"
 #include "tongsorrel.h"
 
@@ -9,8 +9,9 @@ static void follow(tongsorrel_device device) {
     for (uint8_t page = 0; page < TONGSORREL_PAGES; page++) board_switch(page, tongsorrel_supplies(device, page));
 }
 
-/* The bytes have to be ready before the host says, by its STOP, how many it takes. So the longest reply is made first and its state dropped;
- * a shorter reply is a beginning of it (2.9). The call that counts is made with the number clocked; above LONGEST all are alike (11.3). */
+/* The bytes have to be ready before the host says, by its STOP, how many it takes. So the longest reply is made first and its state
+ * dropped; a shorter reply is a beginning of it (2.9). The call that counts is made with the number clocked; above LONGEST
+ * all are alike (11.3). */
 static tongsorrel_done answer(tongsorrel_device device, const board_event *event) {
     bool alert = event->kind == BOARD_ALERT_RESPONSE;
     uint8_t reply[LONGEST];

@@ -1,5 +1,6 @@
 /* A host that polls READ_EIN and keeps the energy totals. bus_read stands for its SMBus driver: here a shelf lives in this program,
- * takes samples between two polls, and the wires damage one reply. */
+ * takes samples between two polls, and the wires damage one reply. Each power-on of a device asks for a fresh totalizer: linux_host.c shows
+ * how a host notices one. */
 #include "tongsorrel.h"
 
 #include <inttypes.h>

@@ -1,12 +1,13 @@
 /* A board without hardware: plays a short script, and prints what goes over the bus and what the pins do. */
 #include "peripheral.h"
+#include "tongsorrel.h"
 
 #include <assert.h>
 #include <stdio.h>
 #include <stdlib.h>
 
-/* A line of the bus: S is START, R a repeated START, P STOP; two digits are a byte that the host writes, ? one that it clocks, A one that it
- * clocks from the alert response address. Printed behind a byte written: + for ACK, - for NACK; behind one clocked: what was sent. */
+/* A line of the bus: S is START, R a repeated START, P STOP; two digits are a byte that the host writes, ? one that it clocks, A one that
+ * it clocks from the alert response address. Printed behind a byte written: + for ACK, - for NACK; behind one clocked: what was sent. */
 static const struct line {
     const char *says;
     const char *bus;
@@ -19,20 +20,20 @@ static const struct line {
     {.says = "alert response", .bus = "A"},
     {.says = "PAGE 0", .bus = "S C0 00 00 P"},
     {.says = "a read begins", .bus = "S C0 79 R C1 ?"},
-    {.says = "VOUT of supply 0 over its limit", .work = {BOARD_MEASUREMENT, 0, 0, 0x2A3E}},
+    {.says = "VOUT of supply 0 over its limit", .work = {BOARD_MEASUREMENT, 0, TONGSORREL_VOUT, 0x2A3E}},
     {.says = "the read goes on as it began", .bus = "? ? P"},
     {.says = "read again", .bus = "S C0 79 R C1 ? ? ? P"},
     {.says = "alert response", .bus = "A"},
     {.says = "another one, alert down", .bus = "A"},
     {.says = "a write without STOP is dropped", .bus = "S C0 01 00 S C0 01 C1 P"},
-    {.says = "VOUT 1.2 V", .work = {BOARD_MEASUREMENT, 0, 0, 0x2666}},
+    {.says = "VOUT 1.2 V", .work = {BOARD_MEASUREMENT, 0, TONGSORREL_VOUT, 0x2666}},
     {.says = "OPERATION off", .bus = "S C0 01 00 P"},
     {.says = "OPERATION on", .bus = "S C0 01 80 P"},
     {.says = "CLEAR_FAULTS", .bus = "S C0 03 P"},
     {.says = "a power sample of 1000", .work = {BOARD_SAMPLE, 0, 0, 1000}},
     {.says = "read READ_EIN with PEC", .bus = "S C0 86 R C1 ? ? ? ? ? ? ? ? P"},
     {.says = "response: two retries, delay 1", .bus = "S C0 41 91 P"},
-    {.says = "VOUT over its limit", .work = {BOARD_MEASUREMENT, 0, 0, 0x2A3E}},
+    {.says = "VOUT over its limit", .work = {BOARD_MEASUREMENT, 0, TONGSORREL_VOUT, 0x2A3E}},
     {.says = "tick", .work = {BOARD_TICK, 0, 0, 0}},
     {.says = "another device's address", .bus = "S C2 01 00 P"},
     {.says = "a code that is not there", .bus = "S C0 99 00 P"},
@@ -40,11 +41,11 @@ static const struct line {
     {.says = "clocked too early", .bus = "S C0 79 ? P"},
 };
 
-enum { LINES = sizeof script / sizeof script[0], PAGES = 8 };
+enum { LINES = sizeof script / sizeof script[0] };
 
 static bus_event status;
 static uint8_t received;
-static bool masked, smbalert, on[PAGES];
+static bool masked, smbalert, on[TONGSORREL_PAGES];
 
 bus_event bus_status(void) { return status; }
 uint8_t bus_received(void) { return received; }

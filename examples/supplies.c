@@ -28,16 +28,16 @@ static void report(const char *event) {
 int main(void) {
     keep(tongsorrel_lent_power_on(pages, SUPPLIES));
     report("power-on");
-    write_byte(TONGSORREL_CODE_PAGE, 0xFF);
-    write_byte(TONGSORREL_CODE_OPERATION, 0x80);
+    write_byte(TONGSORREL_CODE_PAGE, TONGSORREL_EVERY_PAGE);
+    write_byte(TONGSORREL_CODE_OPERATION, TONGSORREL_OPERATION_ON);
     report("PAGE FFh, OPERATION 80h");
     for (uint8_t page = 0; page < SUPPLIES; page++) keep(tongsorrel_lent_measure(unpaged, pages, SUPPLIES, page, TONGSORREL_VOUT, 0x2666));
     keep(tongsorrel_lent_measure(unpaged, pages, SUPPLIES, 95, TONGSORREL_VOUT, 0x2A3E));
     report("VOUT of supply 95 over its limit");
     keep(tongsorrel_lent_measure(unpaged, pages, SUPPLIES, 95, TONGSORREL_VOUT, 0x2666));
     write_byte(TONGSORREL_CODE_PAGE, 95);
-    write_byte(TONGSORREL_CODE_OPERATION, 0x00);
-    write_byte(TONGSORREL_CODE_OPERATION, 0x80);
+    write_byte(TONGSORREL_CODE_OPERATION, TONGSORREL_OPERATION_OFF);
+    write_byte(TONGSORREL_CODE_OPERATION, TONGSORREL_OPERATION_ON);
     report("VOUT back, PAGE 95, OPERATION 00h, 80h");
     const uint8_t clear[] = {TONGSORREL_ADDRESS_WRITE, TONGSORREL_CODE_CLEAR_FAULTS};
     keep(tongsorrel_lent_write(unpaged, pages, SUPPLIES, clear, sizeof clear));

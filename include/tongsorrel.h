@@ -1,5 +1,7 @@
-/* Tongsorrel for C and C++: the functions of libtongsorrel.a, and of liblent.a those named tongsorrel_lent_... x86-64 Linux; the archives call
- * nothing but memcpy.
+/* Tongsorrel for C and C++. x86-64 Linux; three archives, which may be linked side by side and call nothing but memcpy and memset:
+ *   libhost.a        for a host: the functions named tongsorrel_host_...
+ *   liblent.a        for firmware: the device over lent records, tongsorrel_lent_...
+ *   libtongsorrel.a  for firmware: all others; the host's totalizer is among them, for a host that wants nothing else.
  *
  * Each function is proved: for all arguments it gives exactly the result named at it, writes nothing but what is named, and ends.
  * Numbers such as 7.6 are clauses of docs/DATASHEET.md.
@@ -10,8 +12,8 @@
  *   - A bool holds 0 or 1. Every other field may hold anything (12.1).
  * The functions keep nothing between calls and share nothing, so they may run in any number of threads and in signal handlers.
  *
- * Stack: a call takes at most TONGSORREL_STACK bytes from its return address down. The caller's own copies come on top: a device handed over
- * has 460 bytes, a result 464. tests/stack.c measures it on a painted stack, over every code, length and answer, and fails if it is more. */
+ * Stack: a call takes at most TONGSORREL_STACK bytes from its return address down. The caller's own copies come on top: a device handed
+ * over has 460 bytes, a result 464. tests/stack.c measures it on a painted stack, over every code, length and answer. */
 #ifndef TONGSORREL_H
 #define TONGSORREL_H
 
@@ -55,6 +57,7 @@ enum {
     TONGSORREL_WRONG_COUNT_BYTE = 22,
     TONGSORREL_ACCUMULATOR_TOO_LARGE = 23,
     TONGSORREL_TOTAL_FULL = 24,
+    TONGSORREL_NO_ROOM = 26,
 };
 
 /* Command codes (3.1). */
@@ -98,6 +101,74 @@ enum {
     TONGSORREL_CODE_PMBUS_REVISION = 0x98,
 };
 
+/* Data of PAGE beside 0 to 7: every page (3.8). */
+enum { TONGSORREL_EVERY_PAGE = 0xFF };
+
+/* Data of OPERATION (3.5). */
+enum {
+    TONGSORREL_OPERATION_OFF = 0x00,
+    TONGSORREL_OPERATION_SOFT_OFF = 0x40, /* off at once too */
+    TONGSORREL_OPERATION_ON = 0x80,
+};
+
+/* Data of WRITE_PROTECT (4.1): each level refuses what the one before does, and the writes named here. */
+enum {
+    TONGSORREL_PROTECT_NOTHING = 0x00,
+    TONGSORREL_PROTECT_LIMITS = 0x20, /* limits and responses */
+    TONGSORREL_PROTECT_VOUT_COMMAND = 0x40,
+    TONGSORREL_PROTECT_ALL = 0x80, /* PAGE and OPERATION; WRITE_PROTECT, CLEAR_FAULTS and the status registers are never refused */
+};
+
+/* Response bytes (3.6). 47h takes the first two, the other codes any byte: one of the last four, and with the two in the middle retries and
+ * a delay in ticks, 0 to 7 each. TONGSORREL_SHUT_DOWN | TONGSORREL_RETRIES(2) | 1 is 91h: two retries, each after one tick. */
+enum {
+    TONGSORREL_IOUT_GO_ON = 0x00,
+    TONGSORREL_IOUT_SHUT_DOWN = 0xC0,
+    TONGSORREL_GO_ON = 0x00,
+    TONGSORREL_DELAYED_SHUT_DOWN = 0x40, /* after the delay, if the cause is still present */
+    TONGSORREL_SHUT_DOWN = 0x80,
+    TONGSORREL_OFF_WHILE_PRESENT = 0xC0,
+};
+#define TONGSORREL_RETRIES(number) ((number) << 3)
+
+/* Bits of STATUS_BYTE, which is the low byte of STATUS_WORD (6.10), and those that STATUS_WORD has besides (6.11). */
+enum {
+    TONGSORREL_STATUS_OFF_BIT = 0x40, /* the page does not supply */
+    TONGSORREL_STATUS_VOUT_OV_BIT = 0x20,
+    TONGSORREL_STATUS_IOUT_OC_BIT = 0x10,
+    TONGSORREL_STATUS_VIN_UV_BIT = 0x08,
+    TONGSORREL_STATUS_TEMPERATURE_BIT = 0x04,    /* any of STATUS_TEMPERATURE */
+    TONGSORREL_STATUS_CML_BIT = 0x02,            /* any of STATUS_CML */
+    TONGSORREL_STATUS_OTHER_BIT = 0x01,          /* one of STATUS_VOUT, STATUS_IOUT or STATUS_INPUT that no bit above shows */
+    TONGSORREL_STATUS_VOUT_BIT = 0x8000,         /* any of STATUS_VOUT */
+    TONGSORREL_STATUS_IOUT_BIT = 0x4000,         /* any of STATUS_IOUT */
+    TONGSORREL_STATUS_INPUT_BIT = 0x2000,        /* any of STATUS_INPUT */
+    TONGSORREL_STATUS_POWER_GOOD_N_BIT = 0x0800, /* the page does not supply */
+};
+
+/* Bits of STATUS_VOUT, STATUS_IOUT, STATUS_INPUT and STATUS_TEMPERATURE (6.1, 6.13). A 1 written clears its bit (6.8). */
+enum {
+    TONGSORREL_VOUT_OV_FAULT_BIT = 0x80,
+    TONGSORREL_VOUT_OV_WARN_BIT = 0x40,
+    TONGSORREL_IOUT_OC_FAULT_BIT = 0x80,
+    TONGSORREL_IOUT_OC_WARN_BIT = 0x20,
+    TONGSORREL_VIN_OV_FAULT_BIT = 0x80,
+    TONGSORREL_VIN_OV_WARN_BIT = 0x40,
+    TONGSORREL_VIN_UV_WARN_BIT = 0x20,
+    TONGSORREL_VIN_UV_FAULT_BIT = 0x10,
+    TONGSORREL_OT_FAULT_BIT = 0x80,
+    TONGSORREL_OT_WARN_BIT = 0x40,
+    TONGSORREL_UT_FAULT_BIT = 0x10,
+};
+
+/* Bits of STATUS_CML, with the answers that set them (6.9). */
+enum {
+    TONGSORREL_CML_COMMAND_BIT = 0x80, /* 3, 8: unsupported command, protected */
+    TONGSORREL_CML_DATA_BIT = 0x40,    /* 6, 9: too many data; invalid data, or a paged code read under PAGE FFh */
+    TONGSORREL_CML_PEC_BIT = 0x20,     /* 7: wrong PEC */
+    TONGSORREL_CML_OTHER_BIT = 0x02,   /* 5, 10, 11: too few data, read too short or too long */
+};
+
 /* Quantities (5.1): the argument of tongsorrel_measure, and the places in words, measured and status. */
 enum {
     TONGSORREL_VOUT = 0,
@@ -118,7 +189,7 @@ enum {
     TONGSORREL_CAUSES = 6,
 };
 
-/* Warnings (6.14): the places in limits behind those of the causes. */
+/* Warnings (6.13): the places in limits behind those of the causes. */
 enum {
     TONGSORREL_VOUT_OV_WARN = 6,
     TONGSORREL_IOUT_OC_WARN = 7,
@@ -172,7 +243,8 @@ typedef struct tongsorrel_unpaged {
     tongsorrel_account energy;
 } tongsorrel_unpaged;
 
-/* One supply. limits by cause and warning, responses and machines by cause (the machine that tries again, a byte of 0 to 64: 7.13); words (the latest, where measured says so), measured and status by quantity. */
+/* One supply. limits by cause and warning; responses by cause, and machines, which try again, each a byte of 0 to 64 (7.12); words (the
+ * latest, where measured says so), measured and status by quantity. */
 typedef struct tongsorrel_page {
     uint8_t operation;
     uint16_t vout_command;
@@ -201,8 +273,8 @@ tongsorrel_device tongsorrel_power_on(void);
 /* A write transaction: the bytes from START to STOP, address byte first. Answers 0, 1, 2, 3, 5 to 9, 15 (11.2). */
 tongsorrel_done tongsorrel_write(tongsorrel_device device, const uint8_t *bytes, size_t length);
 
-/* A read transaction: the header C0h, code, C1h, and a reply buffer of n bytes, n being the number of bytes that the host clocks. All n bytes
- * are written (2.9). Answers 0, 1, 2, 3, 9 (a paged code under PAGE FFh: 3.8), 10, 11, 15 (11.3). */
+/* A read transaction: the header C0h, code, C1h, and a reply buffer of n bytes, n being the number of bytes that the host clocks. All n
+ * bytes are written (2.9). Answers 0, 1, 2, 3, 9 (a paged code under PAGE FFh: 3.8), 10, 11, 15 (11.3). */
 tongsorrel_done tongsorrel_read(tongsorrel_device device, const uint8_t *header, size_t header_length, uint8_t *reply, size_t n);
 
 /* A measurement: the latest word of a quantity on a page (5.6), which is 0 to 7 whatever PAGE is. Answers 0, 12, 15. */
@@ -214,20 +286,21 @@ tongsorrel_done tongsorrel_sample(tongsorrel_device device, uint16_t sample);
 /* One tick, a delay unit, for every page: the machines that try again go on (7.9). Answers 0, 15. */
 tongsorrel_done tongsorrel_tick(tongsorrel_device device);
 
-/* An alert response with a reply buffer of n bytes, all of which are written: C0h where it is answered, FFh throughout otherwise (8.4, 8.5).
- * Answers 0, 2, 14, 15. */
+/* An alert response with a reply buffer of n bytes, all of which are written: C0h where it is answered, FFh throughout otherwise
+ * (8.4, 8.5). Answers 0, 2, 14, 15. */
 tongsorrel_done tongsorrel_alert_response(tongsorrel_device device, uint8_t *reply, size_t n);
 
-/* Whether the firmware keeps the supply of a page switched on (7.6, 7.7). A page over 7 is off. It changes after a write, a measurement or a tick. */
+/* Whether the firmware keeps the supply of a page switched on (7.6, 7.7). A page over 7 is off. It changes after a write, a measurement or
+ * a tick. */
 bool tongsorrel_supplies(tongsorrel_device device, uint8_t page);
 
 /* ---- the device over lent records: liblent.a */
 
 /* One to ninety-six supplies in an array of the firmware's own (section 16). Each call gets the unpaged part by value and hands it back in
  * .unpaged with the answer number in .answer; the records are changed where they stand, and none is copied. Their number is the page limit:
- * PAGE and the page of a measurement go up to number - 1, PAGE FFh selects every one. With no record or more than 96, PAGE beyond them, or a
- * value that is not valid in any record or in the unpaged part: answer 15, and nothing changes. With eight records each call does
- * what the one of the eight-page device does. */
+ * PAGE and the page of a measurement go up to number - 1, PAGE FFh selects every one. With no record or more than 96, PAGE beyond them, or
+ * a value that is not valid in any record or in the unpaged part: answer 15, and nothing changes. With eight records each call does what
+ * the one of the eight-page device does. */
 
 enum { TONGSORREL_MOST_PAGES = 96 };
 
@@ -236,20 +309,21 @@ typedef struct tongsorrel_outcome {
     uint8_t answer;
 } tongsorrel_outcome;
 
-/* Sets every record to its power-on values, whatever it held. Answers 0, 15: with 15 no record is touched, and the unpaged part that comes back is
- * that of power-on. */
+/* Sets every record to its power-on values, whatever it held. Answers 0, 15: with 15 no record is touched, and the unpaged part that comes
+ * back is that of power-on. */
 tongsorrel_outcome tongsorrel_lent_power_on(tongsorrel_page *pages, size_t number);
 
 /* As tongsorrel_write: changes the record that PAGE selects, or under FFh any of them. */
-tongsorrel_outcome tongsorrel_lent_write(tongsorrel_unpaged unpaged, tongsorrel_page *pages, size_t number, const uint8_t *bytes, size_t length);
+tongsorrel_outcome tongsorrel_lent_write(tongsorrel_unpaged unpaged, tongsorrel_page *pages, size_t number, const uint8_t *bytes,
+                                         size_t length);
 
 /* As tongsorrel_read: changes no record. */
 tongsorrel_outcome tongsorrel_lent_read(tongsorrel_unpaged unpaged, const tongsorrel_page *pages, size_t number, const uint8_t *header,
                                         size_t header_length, uint8_t *reply, size_t n);
 
 /* As tongsorrel_measure: changes the record of that page. */
-tongsorrel_outcome tongsorrel_lent_measure(tongsorrel_unpaged unpaged, tongsorrel_page *pages, size_t number, uint8_t page, uint8_t quantity,
-                                           uint16_t word);
+tongsorrel_outcome tongsorrel_lent_measure(tongsorrel_unpaged unpaged, tongsorrel_page *pages, size_t number, uint8_t page,
+                                           uint8_t quantity, uint16_t word);
 
 /* As tongsorrel_sample: changes no record. */
 tongsorrel_outcome tongsorrel_lent_sample(tongsorrel_unpaged unpaged, const tongsorrel_page *pages, size_t number, uint16_t sample);
@@ -258,7 +332,8 @@ tongsorrel_outcome tongsorrel_lent_sample(tongsorrel_unpaged unpaged, const tong
 tongsorrel_outcome tongsorrel_lent_tick(tongsorrel_unpaged unpaged, tongsorrel_page *pages, size_t number);
 
 /* As tongsorrel_alert_response: changes no record. */
-tongsorrel_outcome tongsorrel_lent_alert_response(tongsorrel_unpaged unpaged, const tongsorrel_page *pages, size_t number, uint8_t *reply, size_t n);
+tongsorrel_outcome tongsorrel_lent_alert_response(tongsorrel_unpaged unpaged, const tongsorrel_page *pages, size_t number, uint8_t *reply,
+                                                  size_t n);
 
 /* Whether the firmware keeps the supply of a page switched on; a page beyond the records is off. */
 bool tongsorrel_lent_supplies(const tongsorrel_page *pages, size_t number, uint8_t page);
@@ -266,16 +341,16 @@ bool tongsorrel_lent_supplies(const tongsorrel_page *pages, size_t number, uint8
 /* ---- the streaming device: the bus event by event */
 
 /* For a bus block that hands over START, bytes, repeated START, clocked bytes and STOP one by one (section 17). The state is a buffer of
- * TONGSORREL_STREAM_SIZE bytes of the firmware's own, which each function gets and changes where it stands: the eight-page device, and what is
- * kept of the transaction under way. Any bytes may stand in it, at any address; 17.12 has the layout. A buffer of another length, and one that holds a
- * state which is not valid, is left as it is: answer 15, NACK, FFh. There are no whole transactions.
+ * TONGSORREL_STREAM_SIZE bytes of the firmware's own, which each function gets and changes where it stands: the eight-page device, and what
+ * is kept of the transaction under way. Any bytes may stand in it, at any address; 17.12 has the layout. A buffer of another length, and
+ * one that holds a state which is not valid, is left as it is: answer 15, NACK, FFh. There are no whole transactions.
  *
  * The order of steps of a write and of a read, as the bus brings them (17.10 has the picture):
  *   tongsorrel_stream_start, tongsorrel_stream_byte for each byte, tongsorrel_stream_stop
- *   tongsorrel_stream_start, tongsorrel_stream_byte for each byte, tongsorrel_stream_repeated_start, tongsorrel_stream_byte for the second address
- *       byte, tongsorrel_stream_clock for each byte that the host clocks, tongsorrel_stream_stop
- * Any other order is taken too: it is a breach, and changes nothing (17.8). tongsorrel_stream_measure, _sample, _tick and _alert_response may come
- * between any two of them (17.7). */
+ *   tongsorrel_stream_start, tongsorrel_stream_byte for each byte, tongsorrel_stream_repeated_start, tongsorrel_stream_byte for the second
+ *       address byte, tongsorrel_stream_clock for each byte that the host clocks, tongsorrel_stream_stop
+ * Any other order is taken too: it is a breach, and changes nothing (17.8). tongsorrel_stream_measure, _sample, _tick and _alert_response
+ * may come between any two of them (17.7). */
 
 enum { TONGSORREL_STREAM_SIZE = 466 };
 
@@ -308,14 +383,15 @@ uint8_t tongsorrel_stream_sample(uint8_t *state, size_t length, uint16_t sample)
 uint8_t tongsorrel_stream_tick(uint8_t *state, size_t length);
 uint8_t tongsorrel_stream_alert_response(uint8_t *state, size_t length, uint8_t *reply, size_t n);
 
-/* Whether the firmware keeps the supply of a page switched on, and whether it holds SMBALERT# asserted: 1 or 0. A page over 7 is off, and so is
- * everything in a buffer of another length. Both may change at STOP and after each of the four calls above. */
+/* Whether the firmware keeps the supply of a page switched on, and whether it holds SMBALERT# asserted: 1 or 0. A page over 7 is off, and
+ * so is everything in a buffer of another length. Both may change at STOP and after each of the four calls above. */
 uint8_t tongsorrel_stream_supplies(const uint8_t *state, size_t length, uint8_t page);
 uint8_t tongsorrel_stream_alert(const uint8_t *state, size_t length);
 
 /* ---- the host's totalizer */
 
-/* Totals of energy and samples since the first accepted reply. last: the account in the last accepted reply (10.1). */
+/* Totals of energy and samples since the first accepted reply. last: the account in the last accepted reply (10.1). Each power-on of the
+ * device asks for a fresh one: to a totalizer that goes on, the account's fall to 0 is a step forward like any other (10.5). */
 typedef struct tongsorrel_totalizer {
     bool started;
     bool closed;
@@ -335,6 +411,51 @@ tongsorrel_totalizer tongsorrel_totalizer_fresh(void);
 /* One reply, as it came over the bus: the seven bytes of READ_EIN and the PEC, which covers the header C0h 86h C1h too (10.2).
  * Answers 0, 15, 20 to 24 (11.5). */
 tongsorrel_taken tongsorrel_totalizer_take(tongsorrel_totalizer totalizer, const uint8_t *reply, size_t length);
+
+/* ---- the host's transactions: libhost.a */
+
+/* For the other end of the bus, without a device (section 18): builds the frame of every write and every read of the table (3.1) in a
+ * buffer of the caller's, takes replies apart, and totalizes energy. A frame is all that the host writes, address bytes and PEC among it.
+ * Only code, direction and number of data are looked at: a frame that the device will refuse for its data, its page or WRITE_PROTECT is
+ * built like any other. */
+
+/* Room for every frame, and for every reply, with PEC. */
+enum {
+    TONGSORREL_LONGEST_FRAME = 5,
+    TONGSORREL_LONGEST_REPLY = 8,
+};
+
+/* What was built: the bytes of the frame, and of a read the bytes to clock behind it. Both are 0 for an answer other than 0. */
+typedef struct tongsorrel_built {
+    uint8_t answer;
+    size_t length;
+    size_t count;
+} tongsorrel_built;
+
+/* A write: C0h, code, the data, and the PEC where check asks for one (18.2), which is not among the data. The frame stands in the buffer
+ * from the place on; no other byte of the buffer is touched, and none at all under a refusal (18.5). Answers 0, 3, 5, 6, 26 (18.4). */
+tongsorrel_built tongsorrel_host_write(uint8_t *buffer, size_t size, size_t place, uint8_t code, const uint8_t *data, size_t number,
+                                       bool check);
+
+/* A read: the header C0h, code, C1h, likewise, and in .count the bytes to clock: the data, and the PEC where check asks for one (18.3).
+ * Answers 0, 3, 26 (18.4). */
+tongsorrel_built tongsorrel_host_read(uint8_t *buffer, size_t size, size_t place, uint8_t code, bool check);
+
+/* A reply in its fields (18.6): byte where the code has one data byte, word where it has two, account for READ_EIN. Fields that a code does
+ * not have are 0, and all are under a refusal. */
+typedef struct tongsorrel_reply {
+    uint8_t answer;
+    uint8_t byte;
+    uint16_t word;
+    tongsorrel_account account;
+} tongsorrel_reply;
+
+/* The bytes clocked in a read of the code, with PEC or without. Answers 0, 3, 20 to 23 (18.7). */
+tongsorrel_reply tongsorrel_host_reply(uint8_t code, bool check, const uint8_t *reply, size_t length);
+
+/* As tongsorrel_totalizer_fresh and tongsorrel_totalizer_take, for the replies of a code: TONGSORREL_CODE_READ_EIN (18.8). */
+tongsorrel_totalizer tongsorrel_host_totalizer_fresh(void);
+tongsorrel_taken tongsorrel_host_totalizer_take(tongsorrel_totalizer totalizer, uint8_t code, const uint8_t *reply, size_t length);
 
 #ifdef __cplusplus
 }
@@ -389,6 +510,15 @@ TONGSORREL_AT(tongsorrel_totalizer, samples, 24);
 TONGSORREL_SIZE(tongsorrel_taken, 40);
 TONGSORREL_AT(tongsorrel_taken, totalizer, 0);
 TONGSORREL_AT(tongsorrel_taken, answer, 32);
+TONGSORREL_SIZE(tongsorrel_built, 24);
+TONGSORREL_AT(tongsorrel_built, answer, 0);
+TONGSORREL_AT(tongsorrel_built, length, 8);
+TONGSORREL_AT(tongsorrel_built, count, 16);
+TONGSORREL_SIZE(tongsorrel_reply, 12);
+TONGSORREL_AT(tongsorrel_reply, answer, 0);
+TONGSORREL_AT(tongsorrel_reply, byte, 1);
+TONGSORREL_AT(tongsorrel_reply, word, 2);
+TONGSORREL_AT(tongsorrel_reply, account, 4);
 
 #undef TONGSORREL_AT
 #undef TONGSORREL_SIZE

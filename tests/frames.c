@@ -14,6 +14,12 @@ static void expect(bool holds, const char *what) {
     }
 }
 
+enum {
+    VOUT_BITS = TONGSORREL_VOUT_OV_FAULT_BIT | TONGSORREL_VOUT_OV_WARN_BIT,
+    CML_BITS = TONGSORREL_CML_COMMAND_BIT | TONGSORREL_CML_DATA_BIT | TONGSORREL_CML_OTHER_BIT,
+    UNTOUCHED = 0x55,
+};
+
 /* One frame and the line it gives. */
 typedef struct row {
     const char *frame;
@@ -67,14 +73,14 @@ static tongsorrel_device frames(tongsorrel_device device) {
     for (size_t i = 0; i < ROWS; i++) {
         uint8_t frame[LONGEST], reply[LONGEST];
         size_t n, length = bytes_of(rows[i].frame, frame);
-        memset(reply, 0x55, sizeof reply);
+        memset(reply, UNTOUCHED, sizeof reply);
         tongsorrel_done done = call(device, frame, length, reply, &n);
         device = done.device;
         char line[2 * LONGEST + 3];
         int end = sprintf(line, "%02x", done.answer);
         for (size_t k = 0; k < n; k++) end += sprintf(line + end, "%02x", reply[k]);
         expect(strcmp(line, rows[i].line) == 0, rows[i].frame);
-        expect(reply[n] == 0x55, "nothing is written behind the reply");
+        expect(reply[n] == UNTOUCHED, "nothing is written behind the reply");
     }
     return device;
 }
@@ -83,14 +89,19 @@ static tongsorrel_device frames(tongsorrel_device device) {
 static void state(const tongsorrel_device *device) {
     const tongsorrel_unpaged *unpaged = &device->unpaged;
     const tongsorrel_page *page = &device->pages[0];
-    expect(unpaged->page == 0 && unpaged->protect == 0 && unpaged->cml == 0 && !unpaged->alert, "PAGE, WRITE_PROTECT, CML and the alert");
+    expect(unpaged->page == 0 && unpaged->protect == TONGSORREL_PROTECT_NOTHING, "PAGE and WRITE_PROTECT");
+    expect(unpaged->cml == 0 && !unpaged->alert, "CML and the alert");
     expect(unpaged->energy.accumulator == 1000 && unpaged->energy.rollover == 0 && unpaged->energy.count == 1, "the account");
-    expect(page->operation == 0 && page->vout_command == 0x2666, "OPERATION and VOUT_COMMAND");
-    expect(page->limits[0] == 0x2A3D && page->limits[TONGSORREL_VIN_UV] == 0xC3F5, "the limits");
-    expect(page->responses[0] == 0x80 && page->responses[1] == 0xC0 && page->responses[5] == 0x80, "the responses");
-    expect(page->measured[0] && page->words[0] == 0x2A3E && !page->measured[3], "the measurement");
-    expect(page->status[0] == 0xC0 && page->status[3] == 0 && page->tripped, "the status and the trip");
-    expect(device->pages[7].limits[0] == 0x2A3D && device->pages[7].status[0] == 0 && !device->pages[7].tripped, "another page");
+    expect(page->operation == TONGSORREL_OPERATION_OFF && page->vout_command == 0x2666, "OPERATION and VOUT_COMMAND");
+    expect(page->limits[TONGSORREL_VOUT_OV] == 0x2A3D && page->limits[TONGSORREL_VIN_UV] == 0xC3F5, "the limits");
+    expect(page->responses[TONGSORREL_VOUT_OV] == TONGSORREL_SHUT_DOWN, "a response");
+    expect(page->responses[TONGSORREL_IOUT_OC] == TONGSORREL_IOUT_SHUT_DOWN, "the response to current");
+    expect(page->responses[TONGSORREL_VIN_UV] == TONGSORREL_SHUT_DOWN, "the last response");
+    expect(page->measured[TONGSORREL_VOUT] && page->words[TONGSORREL_VOUT] == 0x2A3E, "the measurement");
+    expect(!page->measured[TONGSORREL_TEMPERATURE] && page->status[TONGSORREL_TEMPERATURE] == 0, "what is not measured");
+    expect(page->status[TONGSORREL_VOUT] == VOUT_BITS && page->tripped, "the status and the trip");
+    page = &device->pages[7];
+    expect(page->limits[TONGSORREL_VOUT_OV] == 0x2A3D && page->status[TONGSORREL_VOUT] == 0 && !page->tripped, "another page");
 }
 
 /* A write of one data byte, which is accepted. */
@@ -103,38 +114,40 @@ static tongsorrel_device written(tongsorrel_device device, uint8_t code, uint8_t
 
 /* Ones written to status registers (6.8, 8.3), under WRITE_PROTECT 80h; the alert had been answered. */
 static void clearings(tongsorrel_device device) {
-    device = written(device, TONGSORREL_CODE_WRITE_PROTECT, 0x80);
+    const uint8_t *vout = &device.pages[0].status[TONGSORREL_VOUT], *cml = &device.unpaged.cml;
+    device = written(device, TONGSORREL_CODE_WRITE_PROTECT, TONGSORREL_PROTECT_ALL);
     device = written(device, TONGSORREL_CODE_STATUS_VOUT, 0xFF);
-    expect(device.pages[0].status[0] == 0xC0 && device.unpaged.alert, "a present cause has its bit and raises the alert");
+    expect(*vout == VOUT_BITS && device.unpaged.alert, "a present cause has its bit and raises the alert");
     device = tongsorrel_measure(device, 0, TONGSORREL_VOUT, 0).device;
-    device = written(device, TONGSORREL_CODE_STATUS_VOUT, 0x7F);
-    expect(device.pages[0].status[0] == 0x80 && device.unpaged.alert, "zeros spare");
-    device.unpaged.cml = 0xC2;
-    device = written(device, TONGSORREL_CODE_STATUS_VOUT, 0x80);
-    expect(device.pages[0].status[0] == 0 && device.unpaged.cml == 0xC2 && device.unpaged.alert, "a one clears, in its register alone");
-    device = written(device, TONGSORREL_CODE_STATUS_CML, 0x42);
-    expect(device.unpaged.cml == 0x80 && device.unpaged.alert, "STATUS_CML bit by bit");
-    device = written(device, TONGSORREL_CODE_STATUS_CML, 0x80);
-    expect(device.unpaged.cml == 0 && !device.unpaged.alert && device.pages[0].tripped, "with the last bit the alert falls, and the trip stays");
+    device = written(device, TONGSORREL_CODE_STATUS_VOUT, (uint8_t)~TONGSORREL_VOUT_OV_FAULT_BIT);
+    expect(*vout == TONGSORREL_VOUT_OV_FAULT_BIT && device.unpaged.alert, "zeros spare");
+    device.unpaged.cml = CML_BITS;
+    device = written(device, TONGSORREL_CODE_STATUS_VOUT, TONGSORREL_VOUT_OV_FAULT_BIT);
+    expect(*vout == 0 && *cml == CML_BITS && device.unpaged.alert, "a one clears, in its register alone");
+    device = written(device, TONGSORREL_CODE_STATUS_CML, TONGSORREL_CML_DATA_BIT | TONGSORREL_CML_OTHER_BIT);
+    expect(*cml == TONGSORREL_CML_COMMAND_BIT && device.unpaged.alert, "STATUS_CML bit by bit");
+    device = written(device, TONGSORREL_CODE_STATUS_CML, TONGSORREL_CML_COMMAND_BIT);
+    expect(*cml == 0 && !device.unpaged.alert && device.pages[0].tripped, "with the last bit the alert falls, and the trip stays");
 }
 
 /* The start, and one more reply with two more samples. */
 static void totalizer(tongsorrel_device device) {
-    static const uint8_t header[] = {0xC0, 0x86, 0xC1};
-    uint8_t reply[8];
+    static const uint8_t header[] = {TONGSORREL_ADDRESS_WRITE, TONGSORREL_CODE_READ_EIN, TONGSORREL_ADDRESS_READ};
+    uint8_t reply[TONGSORREL_LONGEST_REPLY];
     tongsorrel_taken taken = {tongsorrel_totalizer_fresh(), 0};
     device = tongsorrel_read(device, header, sizeof header, reply, sizeof reply).device;
     expect(tongsorrel_pec_from(tongsorrel_pec(header, sizeof header), reply, 7) == reply[7], "the PEC of the energy reply");
     taken = tongsorrel_totalizer_take(taken.totalizer, reply, sizeof reply);
-    expect(taken.answer == 0 && taken.totalizer.started && taken.totalizer.energy == 0, "the start");
+    expect(taken.answer == TONGSORREL_DONE && taken.totalizer.started && taken.totalizer.energy == 0, "the start");
     device = tongsorrel_sample(device, 32767).device;
     device = tongsorrel_sample(device, 2).device;
     device = tongsorrel_read(device, header, sizeof header, reply, sizeof reply).device;
     taken = tongsorrel_totalizer_take(taken.totalizer, reply, sizeof reply);
-    expect(taken.answer == 0 && taken.totalizer.energy == 32769 && taken.totalizer.samples == 2, "the totals");
-    expect(taken.totalizer.last.accumulator == 1001 && taken.totalizer.last.rollover == 1 && taken.totalizer.last.count == 3, "the last account");
+    expect(taken.answer == TONGSORREL_DONE && taken.totalizer.energy == 32769 && taken.totalizer.samples == 2, "the totals");
+    const tongsorrel_account last = taken.totalizer.last;
+    expect(last.accumulator == 1001 && last.rollover == 1 && last.count == 3, "the last account");
     reply[3] ^= 0x81;
-    expect(tongsorrel_totalizer_take(taken.totalizer, reply, sizeof reply).answer == 21, "a changed copy");
+    expect(tongsorrel_totalizer_take(taken.totalizer, reply, sizeof reply).answer == TONGSORREL_WRONG_REPLY_PEC, "a changed copy");
 }
 
 int main(void) {

@@ -1,6 +1,6 @@
-/* The device over lent records from C. Without an argument: numbers of records, values in them and a selected page that get 15, and what each call
- * leaves of the bytes of every record. With a number of records: a frame file (section 13) on that many, for a comparison with the second
- * program. */
+/* The device over lent records from C. Without an argument: numbers of records, values in them and a selected page that get 15, and what
+ * each call leaves of the bytes of every record. With a number of records: a frame file (section 13) on that many, for a comparison with
+ * the second program. */
 #include "tongsorrel.h"
 
 #include <stdio.h>
@@ -53,7 +53,8 @@ static bool only(size_t i) {
 
 /* All six calls get 15, and no byte of a record and nothing of the unpaged part changes. */
 static void refused(tongsorrel_unpaged unpaged, size_t number) {
-    static const uint8_t write[] = {0xC0, 0x01, 0x80}, header[] = {0xC0, 0x79, 0xC1};
+    static const uint8_t write[] = {TONGSORREL_ADDRESS_WRITE, TONGSORREL_CODE_OPERATION, TONGSORREL_OPERATION_ON};
+    static const uint8_t header[] = {TONGSORREL_ADDRESS_WRITE, TONGSORREL_CODE_STATUS_WORD, TONGSORREL_ADDRESS_READ};
     uint8_t reply[3] = {0, 0, 0x55};
     memcpy(before, room, sizeof room);
     tongsorrel_outcome all[] = {
@@ -75,10 +76,12 @@ static void refused(tongsorrel_unpaged unpaged, size_t number) {
 static tongsorrel_unpaged powered(size_t number) {
     scribble();
     tongsorrel_outcome done = tongsorrel_lent_power_on(pages, number);
-    expect(done.answer == 0 && done.unpaged.page == 0 && !done.unpaged.alert, "power-on", number);
+    expect(done.answer == TONGSORREL_DONE && done.unpaged.page == 0 && !done.unpaged.alert, "power-on", number);
     tongsorrel_page fresh = tongsorrel_power_on().pages[0];
-    for (size_t i = 0; i < number; i++) expect(memcmp(&pages[i].limits, &fresh.limits, sizeof fresh.limits) == 0 && !pages[i].tripped, "a record", number);
-    expect(memcmp(before, room, sizeof *room) == 0 && memcmp(before + FENCE + number, pages + number, sizeof *room) == 0, "beside them", number);
+    for (size_t i = 0; i < number; i++)
+        expect(memcmp(&pages[i].limits, &fresh.limits, sizeof fresh.limits) == 0 && !pages[i].tripped, "a record", number);
+    expect(memcmp(before, room, sizeof *room) == 0, "in front of them", number);
+    expect(memcmp(before + FENCE + number, pages + number, sizeof *room) == 0, "behind them", number);
     memcpy(before, room, sizeof room);
     return done.unpaged;
 }
@@ -86,24 +89,27 @@ static tongsorrel_unpaged powered(size_t number) {
 static void number_lent(size_t number) {
     const uint8_t last = (uint8_t)(number - 1);
     tongsorrel_unpaged unpaged = powered(number);
-    uint8_t select[] = {0xC0, TONGSORREL_CODE_PAGE, (uint8_t)number}, on[] = {0xC0, TONGSORREL_CODE_OPERATION, 0x80};
+    uint8_t select[] = {TONGSORREL_ADDRESS_WRITE, TONGSORREL_CODE_PAGE, (uint8_t)number};
+    uint8_t on[] = {TONGSORREL_ADDRESS_WRITE, TONGSORREL_CODE_OPERATION, TONGSORREL_OPERATION_ON};
     expect(tongsorrel_lent_write(unpaged, pages, number, select, 3).answer == TONGSORREL_INVALID_DATA, "PAGE beyond the records", number);
-    expect(tongsorrel_lent_measure(unpaged, pages, number, (uint8_t)number, 0, 0).answer == TONGSORREL_NO_SUCH_PLACE, "a page beyond", number);
+    const uint8_t measured = tongsorrel_lent_measure(unpaged, pages, number, (uint8_t)number, TONGSORREL_VOUT, 0).answer;
+    expect(measured == TONGSORREL_NO_SUCH_PLACE, "a page beyond", number);
     expect(untouched(), "a refusal leaves every record", number);
     select[2] = last;
     unpaged = tongsorrel_lent_write(unpaged, pages, number, select, 3).unpaged;
     expect(unpaged.page == last, "the last page is selected", number);
     unpaged = tongsorrel_lent_write(unpaged, pages, number, on, 3).unpaged;
-    expect(pages[last].operation == 0x80 && only(last), "a write changes the selected record alone", number);
+    expect(pages[last].operation == TONGSORREL_OPERATION_ON && only(last), "a write changes the selected record alone", number);
     expect(tongsorrel_lent_supplies(pages, number, last), "the last page supplies", number);
     expect(!tongsorrel_lent_supplies(pages, number, (uint8_t)number), "no page beyond supplies", number);
     memcpy(before, room, sizeof room);
     unpaged = tongsorrel_lent_measure(unpaged, pages, number, last, TONGSORREL_VOUT, 0x7BFF).unpaged;
     expect(unpaged.alert && pages[last].tripped && only(last), "a measurement changes its page's record alone", number);
-    select[2] = 0xFF, on[2] = 0x40;
+    select[2] = TONGSORREL_EVERY_PAGE, on[2] = TONGSORREL_OPERATION_SOFT_OFF;
     unpaged = tongsorrel_lent_write(unpaged, pages, number, select, 3).unpaged;
     unpaged = tongsorrel_lent_write(unpaged, pages, number, on, 3).unpaged;
-    for (size_t i = 0; i < number; i++) expect(pages[i].operation == 0x40, "under FFh a write changes every record", number);
+    for (size_t i = 0; i < number; i++)
+        expect(pages[i].operation == TONGSORREL_OPERATION_SOFT_OFF, "under FFh a write changes every record", number);
     unpaged.page = (uint8_t)number;
     refused(unpaged, number);
     unpaged.page = 0;

@@ -36,8 +36,8 @@ static void bytes(const uint8_t *first, size_t count) {
     for (size_t i = 0; i < count; i++) expect(tongsorrel_stream_byte(state, sizeof state, first[i]) == TONGSORREL_ACK, "ACK", i);
 }
 
-/* A write of a code and data with their PEC, 2^bits bytes longer than it should be: with a count that wraps it would be accepted, with its PEC
- * and without. */
+/* A write of a code and data with their PEC, 2^bits bytes longer than it should be: with a count that wraps it would be accepted, with its
+ * PEC and without. */
 static void long_write(const uint8_t *first, size_t count, int bits) {
     const uint64_t more = UINT64_C(1) << bits;
     uint8_t before[TONGSORREL_STREAM_SIZE], check = tongsorrel_pec(first, count);
@@ -47,9 +47,9 @@ static void long_write(const uint8_t *first, size_t count, int bits) {
     bytes(&check, 1);
     uint64_t acked = 0, length = count + 1;
     for (; length < more + count; length++) acked += tongsorrel_stream_byte(state, sizeof state, 0) != TONGSORREL_NACK;
-    stop(before, length, TONGSORREL_TOO_MANY_DATA, 0x40);
+    stop(before, length, TONGSORREL_TOO_MANY_DATA, TONGSORREL_CML_DATA_BIT);
     acked += tongsorrel_stream_byte(state, sizeof state, 0) != TONGSORREL_NACK;
-    stop(before, length + 1, TONGSORREL_TOO_MANY_DATA, 0x40);
+    stop(before, length + 1, TONGSORREL_TOO_MANY_DATA, TONGSORREL_CML_DATA_BIT);
     expect(acked == 0, "NACK to each byte too many", length + 1);
 }
 
@@ -66,11 +66,12 @@ static void long_read(int bits) {
     uint64_t other = 0, n = 0;
     for (; n < sizeof sent; n++) sent[n] = tongsorrel_stream_clock(state, sizeof state);
     for (; n < more + 2; n++) other += tongsorrel_stream_clock(state, sizeof state) != 0xFF;
-    stop(before, n, TONGSORREL_READ_TOO_LONG, 0x02);
+    stop(before, n, TONGSORREL_READ_TOO_LONG, TONGSORREL_CML_OTHER_BIT);
     other += tongsorrel_stream_clock(state, sizeof state) != 0xFF;
-    stop(before, n + 1, TONGSORREL_READ_TOO_LONG, 0x02);
+    stop(before, n + 1, TONGSORREL_READ_TOO_LONG, TONGSORREL_CML_OTHER_BIT);
     const uint8_t reply[] = {TONGSORREL_ADDRESS_WRITE, TONGSORREL_CODE_STATUS_WORD, TONGSORREL_ADDRESS_READ, sent[0], sent[1]};
-    expect(sent[0] == 0x40 && sent[1] == 0x08 && sent[2] == tongsorrel_pec(reply, sizeof reply), "the reply", n);
+    expect((sent[0] | sent[1] << 8) == (TONGSORREL_STATUS_OFF_BIT | TONGSORREL_STATUS_POWER_GOOD_N_BIT), "the status", n);
+    expect(sent[2] == tongsorrel_pec(reply, sizeof reply), "the PEC", n);
     expect(other == 0, "FFh behind the reply", n);
 }
 
@@ -112,6 +113,7 @@ int main(int count, char **arguments) {
     tongsorrel_stream_power_on(state, sizeof state);
     short_ones();
     if (all) long_ones();
-    if (failures == 0) printf("  C: writes of 258 to %s bytes, and reads that clock as many, are too long\n", all ? "4,294,967,301" : "65,541");
+    const char *longest = all ? "4,294,967,301" : "65,541";
+    if (failures == 0) printf("  C: writes of 258 to %s bytes, and reads that clock as many, are too long\n", longest);
     return failures != 0;
 }

@@ -1,5 +1,5 @@
 /* How much stack the calls take: each runs on a stack of its own that was painted, and the deepest byte that changed is looked for. Depth
- * counts from the return address down, which a stand-in with the same arguments notes. Fails where a call takes more than the header says. */
+ * counts from the return address down, which a stand-in with the same arguments notes. Fails where one takes more than the header says. */
 #define _XOPEN_SOURCE 700
 #include "tongsorrel.h"
 
@@ -77,7 +77,8 @@ static tongsorrel_outcome no_lent_write(tongsorrel_unpaged u, tongsorrel_page *p
     return (tongsorrel_outcome){u, 0};
 }
 
-static tongsorrel_outcome no_lent_read(tongsorrel_unpaged u, const tongsorrel_page *p, size_t k, const uint8_t *h, size_t l, uint8_t *r, size_t m) {
+static tongsorrel_outcome no_lent_read(tongsorrel_unpaged u, const tongsorrel_page *p, size_t k, const uint8_t *h, size_t l, uint8_t *r,
+                                       size_t m) {
     (void)p, (void)k, (void)h, (void)l, (void)r, (void)m;
     NOTE();
     return (tongsorrel_outcome){u, 0};
@@ -152,6 +153,36 @@ static tongsorrel_taken no_take(tongsorrel_totalizer t, const uint8_t *r, size_t
     return (tongsorrel_taken){t, 0};
 }
 
+/* The host's transactions. */
+static uint8_t buffer[TONGSORREL_LONGEST_FRAME];
+static tongsorrel_built built;
+static tongsorrel_reply fields;
+static bool check;
+
+static tongsorrel_built no_host_write(uint8_t *b, size_t s, size_t p, uint8_t c, const uint8_t *d, size_t k, bool e) {
+    (void)b, (void)s, (void)p, (void)c, (void)d, (void)k, (void)e;
+    NOTE();
+    return built;
+}
+
+static tongsorrel_built no_host_read(uint8_t *b, size_t s, size_t p, uint8_t c, bool e) {
+    (void)b, (void)s, (void)p, (void)c, (void)e;
+    NOTE();
+    return built;
+}
+
+static tongsorrel_reply no_host_reply(uint8_t c, bool e, const uint8_t *r, size_t l) {
+    (void)c, (void)e, (void)r, (void)l;
+    NOTE();
+    return fields;
+}
+
+static tongsorrel_taken no_host_take(tongsorrel_totalizer t, uint8_t c, const uint8_t *r, size_t l) {
+    (void)c, (void)r, (void)l;
+    NOTE();
+    return (tongsorrel_taken){t, 0};
+}
+
 static tongsorrel_device no_power_on(void) {
     NOTE();
     return device;
@@ -167,10 +198,15 @@ static tongsorrel_done (*volatile alert_call)(tongsorrel_device, uint8_t *, size
 static bool (*volatile supplies_call)(tongsorrel_device, uint8_t);
 static tongsorrel_taken (*volatile take_call)(tongsorrel_totalizer, const uint8_t *, size_t);
 static tongsorrel_device (*volatile power_on_call)(void);
+static tongsorrel_built (*volatile host_write_call)(uint8_t *, size_t, size_t, uint8_t, const uint8_t *, size_t, bool);
+static tongsorrel_built (*volatile host_read_call)(uint8_t *, size_t, size_t, uint8_t, bool);
+static tongsorrel_reply (*volatile host_reply_call)(uint8_t, bool, const uint8_t *, size_t);
+static tongsorrel_taken (*volatile host_take_call)(tongsorrel_totalizer, uint8_t, const uint8_t *, size_t);
 
 static tongsorrel_outcome (*volatile lent_power_on_call)(tongsorrel_page *, size_t);
 static tongsorrel_outcome (*volatile lent_write_call)(tongsorrel_unpaged, tongsorrel_page *, size_t, const uint8_t *, size_t);
-static tongsorrel_outcome (*volatile lent_read_call)(tongsorrel_unpaged, const tongsorrel_page *, size_t, const uint8_t *, size_t, uint8_t *, size_t);
+static tongsorrel_outcome (*volatile lent_read_call)(tongsorrel_unpaged, const tongsorrel_page *, size_t, const uint8_t *, size_t,
+                                                     uint8_t *, size_t);
 static tongsorrel_outcome (*volatile lent_measure_call)(tongsorrel_unpaged, tongsorrel_page *, size_t, uint8_t, uint8_t, uint16_t);
 
 static tongsorrel_outcome (*volatile lent_tick_call)(tongsorrel_unpaged, tongsorrel_page *, size_t);
@@ -205,6 +241,10 @@ static void run_alert(void) { done = alert_call(device, reply, n); }
 static void run_supplies(void) { on = supplies_call(device, number); }
 static void run_take(void) { taken = take_call(totalizer, bytes, length); }
 static void run_power_on(void) { device = power_on_call(); }
+static void run_host_write(void) { built = host_write_call(buffer, sizeof buffer, 0, number, bytes, length, check); }
+static void run_host_read(void) { built = host_read_call(buffer, sizeof buffer, 0, number, check); }
+static void run_host_reply(void) { fields = host_reply_call(number, check, reply, n); }
+static void run_host_take(void) { taken = host_take_call(totalizer, TONGSORREL_CODE_READ_EIN, bytes, length); }
 
 static void on_stack(void (*run)(void)) {
     getcontext(&there);
@@ -261,7 +301,7 @@ enum { STATES = 4 };
 static tongsorrel_device busy(void) {
     tongsorrel_device d = tongsorrel_power_on();
     for (uint8_t p = 0; p < TONGSORREL_PAGES; p++) {
-        d.pages[p].operation = 0x80;
+        d.pages[p].operation = TONGSORREL_OPERATION_ON;
         for (uint8_t q = 0; q < TONGSORREL_QUANTITIES; q++) d = tongsorrel_measure(d, p, q, 0x7BFF).device;
     }
     return d;
@@ -331,7 +371,8 @@ static void stream_calls(void) {
     for (number = 0; number < 9; number++)
         for (second = 0; second < 5; second++)
             STREAM_DEPTH(stream_measure_call, no_stream_measure, tongsorrel_stream_measure, run_stream_measure);
-    for (word = 32767; word <= 32768; word++) STREAM_DEPTH(stream_sample_call, no_stream_sample, tongsorrel_stream_sample, run_stream_sample);
+    for (word = 32767; word <= 32768; word++)
+        STREAM_DEPTH(stream_sample_call, no_stream_sample, tongsorrel_stream_sample, run_stream_sample);
     stream_event(tongsorrel_stream_tick, CALL);
     for (number = 0; number < 9; number++)
         STREAM_DEPTH(stream_supplies_call, no_stream_supplies, tongsorrel_stream_supplies, run_stream_supplies);
@@ -352,8 +393,8 @@ static void stream_write(uint8_t code, uint8_t data) {
 static void stream_state(int kind) {
     tongsorrel_stream_power_on(state, sizeof state);
     if (kind == 0) return;
-    stream_write(TONGSORREL_CODE_PAGE, 0xFF);
-    stream_write(TONGSORREL_CODE_OPERATION, 0x80);
+    stream_write(TONGSORREL_CODE_PAGE, TONGSORREL_EVERY_PAGE);
+    stream_write(TONGSORREL_CODE_OPERATION, TONGSORREL_OPERATION_ON);
     for (uint8_t p = 0; p < TONGSORREL_PAGES; p++)
         for (uint8_t q = 0; q < TONGSORREL_QUANTITIES; q++) tongsorrel_stream_measure(state, sizeof state, p, q, 0x7BFF);
     if (kind == 2) state[0] = 5;
@@ -377,10 +418,32 @@ static void streaming(void) {
     }
 }
 
+/* ---- the host's transactions */
+
+static void host_transactions(uint8_t code) {
+    const uint8_t header[] = {TONGSORREL_ADDRESS_WRITE, code, TONGSORREL_ADDRESS_READ};
+    number = code;
+    for (length = 0; length < 4; length++) DEPTH(host_write_call, no_host_write, tongsorrel_host_write, run_host_write);
+    DEPTH(host_read_call, no_host_read, tongsorrel_host_read, run_host_read);
+    n = built.count;
+    tongsorrel_read(device, header, sizeof header, reply, n);
+    DEPTH(host_reply_call, no_host_reply, tongsorrel_host_reply, run_host_reply);
+}
+
+static void host(void) {
+    device = busy();
+    for (int code = 0; code < 256; code++)
+        for (int with = 0; with < 2; with++) {
+            check = with;
+            host_transactions((uint8_t)code);
+        }
+    report("tongsorrel_host_write, read, reply");
+}
+
 int main(void) {
     tongsorrel_device states[STATES] = {tongsorrel_power_on(), busy(), busy(), busy()};
     states[2].unpaged.protect = 0x01;
-    states[3].unpaged.page = 0xFF;
+    states[3].unpaged.page = TONGSORREL_EVERY_PAGE;
     DEPTH(power_on_call, no_power_on, tongsorrel_power_on, run_power_on);
     report("tongsorrel_power_on");
     for (int s = 0; s < STATES; s++)
@@ -442,9 +505,11 @@ int main(void) {
     for (int i = 0; i < 3; i++)
         for (length = 7; length < 9; length++) {
             DEPTH(take_call, no_take, tongsorrel_totalizer_take, run_take);
+            DEPTH(host_take_call, no_host_take, tongsorrel_host_totalizer_take, run_host_take);
             totalizer = taken.totalizer;
         }
-    report("tongsorrel_totalizer_take");
+    report("tongsorrel_totalizer_take, host_totalizer_take");
+    host();
     printf("  C: a call takes at most %zu bytes of stack (%d said)\n", most, TONGSORREL_STACK);
     return most > TONGSORREL_STACK;
 }

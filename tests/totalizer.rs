@@ -291,21 +291,6 @@ fn every_burst_of_a_reply() {
     println!("  totalizer: {bursts} changed copies, every burst of 1 to 8 bits in 200 replies, get 21 and change nothing");
 }
 
-fn random_state(random: &mut Random) -> Totalizer {
-    let any = (random.u64(), random.u64());
-    Totalizer {
-        started: !random.once_in(4),
-        closed: random.once_in(4),
-        last: if random.once_in(8) {
-            states::account_beyond(random)
-        } else {
-            states::account(random)
-        },
-        energy: random.pick(&[any.0, any.0 >> 30, 0, u64::MAX - (any.0 & 0xFF_FFFF)]),
-        samples: random.pick(&[any.1, any.1 >> 30, 0, u64::MAX - (any.1 & 0xFF_FFFF)]),
-    }
-}
-
 /// A reply that is often right: any account, also one with an accumulator over 7FFFh, any bytes with the right PEC, and any bytes.
 fn random_reply(random: &mut Random) -> Vec<u8> {
     let mut data = [0; 7];
@@ -334,7 +319,7 @@ fn random_replies_to_random_states() {
     let mut random = Random::new(21);
     let mut seen: BTreeMap<u8, usize> = BTreeMap::new();
     for _ in 0..REPLIES {
-        let state = random_state(&mut random);
+        let state = states::totalizer(&mut random);
         let reply = random_reply(&mut random);
         *seen.entry(take_on_both(state, &reply).answer).or_default() += 1;
     }

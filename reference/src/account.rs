@@ -23,6 +23,24 @@ impl Account {
         self.samples = (self.samples + 1) & 0xFF_FFFF;
     }
 
+    /// The account in the seven data bytes of READ_EIN: answer 22 unless the first is
+    /// the count 06h, 23 for an accumulator over 7FFFh.
+    pub(crate) fn from_bytes(bytes: &[u8; 7]) -> Result<Account, u8> {
+        let [count, low, high, rollover, samples @ ..] = *bytes;
+        let account = Account {
+            accumulator: u16::from_le_bytes([low, high]),
+            rollover: u16::from(rollover),
+            samples: u32::from_le_bytes([samples[0], samples[1], samples[2], 0]),
+        };
+        if count != 0x06 {
+            Err(22)
+        } else if account.accumulator > 0x7FFF {
+            Err(23)
+        } else {
+            Ok(account)
+        }
+    }
+
     /// The seven data bytes of READ_EIN.
     pub(crate) fn bytes(&self) -> [u8; 7] {
         let accumulator = self.accumulator.to_le_bytes();

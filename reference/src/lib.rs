@@ -8,6 +8,7 @@ pub mod account;
 pub mod command;
 pub mod device;
 pub mod frame;
+pub mod host;
 pub mod lent;
 pub mod linear11;
 pub mod machine;

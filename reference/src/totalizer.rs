@@ -1,9 +1,10 @@
 //! The host's totalizer (data sheet, section 10).
 
+use crate::account::Account;
+use crate::lent::{READ_ADDRESS, WRITE_ADDRESS};
 use crate::pec::{pec, pec_from};
 
-/// The header of a read of READ_EIN, covered by the PEC of its reply.
-const HEADER: [u8; 3] = [0xC0, 0x86, 0xC1];
+const READ_EIN: u8 = 0x86;
 
 /// Readings are taken modulo 8,388,608 (23 bits), counts modulo 16,777,216.
 const READING_MASK: u32 = 0x7F_FFFF;
@@ -22,13 +23,6 @@ pub struct Totalizer {
     // The totals.
     pub energy: u64,
     pub samples: u64,
-}
-
-/// The numbers of one reply.
-struct Reply {
-    accumulator: u16,
-    rollover: u16,
-    count: u32,
 }
 
 impl Totalizer {
@@ -53,10 +47,15 @@ impl Totalizer {
 
     /// Takes one reply of eight bytes: READ_EIN and PEC.
     pub fn take(&mut self, reply: &[u8]) -> u8 {
+        self.take_of(READ_EIN, reply)
+    }
+
+    /// Takes one reply to a read of a code that sends an account as READ_EIN does.
+    pub fn take_of(&mut self, code: u8, reply: &[u8]) -> u8 {
         if !self.valid() {
             return 15;
         }
-        let new = match judge(reply) {
+        let new = match judge(code, reply) {
             Ok(new) => new,
             Err(answer) => return answer,
         };
@@ -73,7 +72,7 @@ impl Totalizer {
             closed: false,
             last_accumulator: new.accumulator,
             last_rollover: new.rollover,
-            last_count: new.count,
+            last_count: new.samples,
             energy,
             samples,
         };
@@ -82,13 +81,13 @@ impl Totalizer {
 
     /// The totals with `new` added, or none when one would reach 2^64. The first
     /// accepted reply is the start: totals 0.
-    fn totals_after(&self, new: &Reply) -> Option<(u64, u64)> {
+    fn totals_after(&self, new: &Account) -> Option<(u64, u64)> {
         if !self.started {
             return Some((0, 0));
         }
         let last = reading(self.last_accumulator, self.last_rollover);
         let energy = reading(new.accumulator, new.rollover).wrapping_sub(last) & READING_MASK;
-        let samples = new.count.wrapping_sub(self.last_count) & COUNT_MASK;
+        let samples = new.samples.wrapping_sub(self.last_count) & COUNT_MASK;
         Some((
             self.energy.checked_add(u64::from(energy))?,
             self.samples.checked_add(u64::from(samples))?,
@@ -101,24 +100,15 @@ fn reading(accumulator: u16, rollover: u16) -> u32 {
     u32::from(rollover) * 32768 + u32::from(accumulator)
 }
 
-/// The numbers of a good reply, or answers 20 to 23.
-fn judge(reply: &[u8]) -> Result<Reply, u8> {
-    if reply.len() != 8 {
+/// The account in a good reply to a read of the code, or answers 20 to 23. The PEC
+/// covers the header of that read.
+fn judge(code: u8, reply: &[u8]) -> Result<Account, u8> {
+    let Ok([data @ .., check]) = <&[u8; 8]>::try_from(reply) else {
         return Err(20);
-    }
-    if pec_from(pec(&HEADER), &reply[..7]) != reply[7] {
+    };
+    let header = [WRITE_ADDRESS, code, READ_ADDRESS];
+    if pec_from(pec(&header), data) != *check {
         return Err(21);
     }
-    if reply[0] != 0x06 {
-        return Err(22);
-    }
-    let accumulator = u16::from_le_bytes([reply[1], reply[2]]);
-    if accumulator > 0x7FFF {
-        return Err(23);
-    }
-    Ok(Reply {
-        accumulator,
-        rollover: u16::from(reply[3]),
-        count: u32::from_le_bytes([reply[4], reply[5], reply[6], 0]),
-    })
+    Account::from_bytes(data)
 }

@@ -1,5 +1,5 @@
-//! libtongsorrel.a and liblent.a: their structs and functions, declared as include/tongsorrel.h declares them, each function behind a safe one.
-//! A slice crosses as a pointer and a length, a struct by value.
+//! libtongsorrel.a, liblent.a and libhost.a: their structs and functions, declared as include/tongsorrel.h declares them, each function
+//! behind a safe one. A slice crosses as a pointer and a length, a struct by value.
 
 /// The energy account.
 #[repr(C)]
@@ -77,8 +77,27 @@ pub struct Taken {
     pub answer: u8,
 }
 
+/// A frame that the host built: the answer, the bytes of the frame, and for a read the bytes to clock.
+#[repr(C)]
+#[derive(Clone, Copy, Debug, PartialEq, Eq)]
+pub struct Built {
+    pub answer: u8,
+    pub length: usize,
+    pub count: usize,
+}
+
+/// A reply that the host read: the answer, and the field that its code has.
+#[repr(C)]
+#[derive(Clone, Copy, Debug, PartialEq, Eq)]
+pub struct Reply {
+    pub answer: u8,
+    pub byte: u8,
+    pub word: u16,
+    pub account: Account,
+}
+
 mod archive {
-    use super::{Device, Done, Outcome, Page, Taken, Totalizer, Unpaged};
+    use super::{Built, Device, Done, Outcome, Page, Reply, Taken, Totalizer, Unpaged};
 
     extern "C" {
         pub fn tongsorrel_pec(bytes: *const u8, length: usize) -> u8;
@@ -164,6 +183,35 @@ mod archive {
         pub fn tongsorrel_stream_alert(state: *const u8, length: usize) -> u8;
         pub fn tongsorrel_totalizer_fresh() -> Totalizer;
         pub fn tongsorrel_totalizer_take(t: Totalizer, reply: *const u8, length: usize) -> Taken;
+        pub fn tongsorrel_host_write(
+            buffer: *mut u8,
+            size: usize,
+            place: usize,
+            code: u8,
+            bytes: *const u8,
+            number: usize,
+            check: bool,
+        ) -> Built;
+        pub fn tongsorrel_host_read(
+            buffer: *mut u8,
+            size: usize,
+            place: usize,
+            code: u8,
+            check: bool,
+        ) -> Built;
+        pub fn tongsorrel_host_reply(
+            code: u8,
+            check: bool,
+            reply: *const u8,
+            length: usize,
+        ) -> Reply;
+        pub fn tongsorrel_host_totalizer_fresh() -> Totalizer;
+        pub fn tongsorrel_host_totalizer_take(
+            t: Totalizer,
+            code: u8,
+            reply: *const u8,
+            length: usize,
+        ) -> Taken;
     }
 }
 
@@ -357,4 +405,32 @@ pub fn totalizer_fresh() -> Totalizer {
 
 pub fn totalizer_take(t: Totalizer, reply: &[u8]) -> Taken {
     unsafe { archive::tongsorrel_totalizer_take(t, reply.as_ptr(), reply.len()) }
+}
+
+/// The host's side of the bus: frames, replies, and the totalizer by code.
+pub mod host {
+    use super::{archive, Built, Reply, Taken, Totalizer};
+
+    pub fn write(buffer: &mut [u8], place: usize, code: u8, data: &[u8], check: bool) -> Built {
+        let (bytes, size) = (buffer.as_mut_ptr(), buffer.len());
+        let (from, number) = (data.as_ptr(), data.len());
+        unsafe { archive::tongsorrel_host_write(bytes, size, place, code, from, number, check) }
+    }
+
+    pub fn read(buffer: &mut [u8], place: usize, code: u8, check: bool) -> Built {
+        let (bytes, size) = (buffer.as_mut_ptr(), buffer.len());
+        unsafe { archive::tongsorrel_host_read(bytes, size, place, code, check) }
+    }
+
+    pub fn reply(code: u8, check: bool, reply: &[u8]) -> Reply {
+        unsafe { archive::tongsorrel_host_reply(code, check, reply.as_ptr(), reply.len()) }
+    }
+
+    pub fn totalizer_fresh() -> Totalizer {
+        unsafe { archive::tongsorrel_host_totalizer_fresh() }
+    }
+
+    pub fn totalizer_take(t: Totalizer, code: u8, reply: &[u8]) -> Taken {
+        unsafe { archive::tongsorrel_host_totalizer_take(t, code, reply.as_ptr(), reply.len()) }
+    }
 }

@@ -1,7 +1,8 @@
-//! A state of the library as the second program's and back: every field, and nothing lost.
+//! A state of the library as the second program's and back: every field, and nothing lost. What the host gets likewise.
 
 use crate::library;
 use reference::device::{Account, Device, Machine, Page, Reading};
+use reference::host::{Built, Reply};
 use reference::lent::Unpaged;
 use reference::totalizer::Totalizer;
 
@@ -167,5 +168,26 @@ pub fn totalizer_from_reference(totalizer: &Totalizer) -> library::Totalizer {
         },
         energy: totalizer.energy,
         samples: totalizer.samples,
+    }
+}
+
+pub fn built_from_reference(built: &Built) -> library::Built {
+    library::Built {
+        answer: built.answer,
+        length: built.length,
+        count: built.count,
+    }
+}
+
+pub fn reply_from_reference(reply: &Reply) -> library::Reply {
+    library::Reply {
+        answer: reply.answer,
+        byte: reply.byte,
+        word: reply.word,
+        account: library::Account {
+            accumulator: reply.account.accumulator,
+            rollover: reply.account.rollover,
+            count: reply.account.samples,
+        },
     }
 }

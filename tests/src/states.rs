@@ -1,6 +1,6 @@
-//! Random states of the device, most of which no run reaches.
+//! Random states of the device and of the totalizer, most of which no run reaches.
 
-use crate::library::{Account, Device, Page, Unpaged};
+use crate::library::{Account, Device, Page, Totalizer, Unpaged};
 use crate::random::Random;
 
 /// Response 47 is the second.
@@ -145,6 +145,22 @@ pub fn account_beyond(random: &mut Random) -> Account {
         _ => account.count = random.pick(&[0x0100_0000, u32::MAX, any | 0x0200_0000]),
     }
     account
+}
+
+/// A totalizer, often near the top of its totals; once in eight one for answer 15.
+pub fn totalizer(random: &mut Random) -> Totalizer {
+    let any = (random.u64(), random.u64());
+    Totalizer {
+        started: !random.once_in(4),
+        closed: random.once_in(4),
+        last: if random.once_in(8) {
+            account_beyond(random)
+        } else {
+            account(random)
+        },
+        energy: random.pick(&[any.0, any.0 >> 30, 0, u64::MAX - (any.0 & 0xFF_FFFF)]),
+        samples: random.pick(&[any.1, any.1 >> 30, 0, u64::MAX - (any.1 & 0xFF_FFFF)]),
+    }
 }
 
 /// Gives one field of a valid state a value that gets answer 15.

@@ -47,3 +47,6 @@ pub const WRONG_COUNT_BYTE: u8 = 22;
 pub const ACCUMULATOR_TOO_LARGE: u8 = 23;
 
 pub const TOTAL_FULL: u8 = 24;
+
+// The host's transactions: the frame does not fit behind the place.
+pub const NO_ROOM: u8 = 26;

@@ -3,7 +3,7 @@
 use Prim.Native.Nat.{ℕ, _<_}
 use mathlib.Core.Path.{_≡_, refl, sym, _∙_}
 use mathlib.Core.Bool.{true}
-use mathlib.Core.List.{List, [], _∷_}
+use mathlib.Core.List.{List}
 use native.Mathlib.Omega.{arith}
 use lib.Dec.{lit<}
 use lib.ListN.{length, getD}
@@ -15,8 +15,9 @@ use Rattle.pec.proofs.Burst.{not-both}
 use Rattle.account.specs.declared.Account.{Account}
 use Rattle.account.specs.Account.{accountValid, einBytes, accountOf}
 use Rattle.account.proofs.Laws.{in-range, reply-back}
+use Rattle.replies.specs.Replies.{readHeader, replyCheck}
 use Rattle.totalizer.specs.declared.Totalizer.{Totalizer}
-use Rattle.totalizer.specs.Totalizer.{answered, replyCheck, replyAnswer, booked, totalize}
+use Rattle.totalizer.specs.Totalizer.{answered, energyAnswer, booked, totalize}
 use Rattle.totalizer.proofs.Outcomes.{bad-check, passes}
 use Rattle.energy.specs.Reply.{energyReply}
 
@@ -26,48 +27,49 @@ check-lt : (s : List ℕ) → pec s < 256
 unfolding pec
 check-lt s = pec-lt 0 s (lit< tt)
 
-reply-bytes : (a : Account) → Bytes (energyReply a)
+reply-bytes : (code : ℕ) (a : Account) → Bytes (energyReply code a)
 unfolding energyReply einBytes Bytes
-reply-bytes a =
+reply-bytes code a =
     (omega arith, (omega arith, (omega arith, (omega arith, (omega arith, (omega arith, (omega arith, (check-lt _, tt))))))))
 
-reply-length : (a : Account) → length (energyReply a) ≡ 8
+reply-length : (code : ℕ) (a : Account) → length (energyReply code a) ≡ 8
 unfolding energyReply einBytes
-reply-length a = refl
+reply-length code a = refl
 
-own-check : (a : Account) → replyCheck (energyReply a) ≡ getD (energyReply a) 7 0
+own-check : (code : ℕ) (a : Account) → replyCheck code 7 (energyReply code a) ≡ getD (energyReply code a) 7 0
 unfolding replyCheck energyReply einBytes
-own-check a = refl
+own-check code a = refl
 
 -- ---- intact: the totalizer reads the account back
 
-read-back : (a : Account) → accountValid a ≡ true → accountOf (energyReply a) ≡ a
+read-back : (code : ℕ) (a : Account) → accountValid a ≡ true → accountOf (energyReply code a) ≡ a
 unfolding energyReply
-read-back a v = reply-back a _ v
+read-back code a v = reply-back a _ v
 
-count-byte : (a : Account) → getD (energyReply a) 0 0 ≡ 6
+count-byte : (code : ℕ) (a : Account) → getD (energyReply code a) 0 0 ≡ 6
 unfolding energyReply einBytes
-count-byte a = refl
+count-byte code a = refl
 
-module _ (t : Totalizer) (a : Account) (l : accountValid (t .last) ≡ true) where
-  pub intact-booked : accountValid a ≡ true → totalize t (energyReply a) ≡ booked t a
+module _ (code : ℕ) (t : Totalizer) (a : Account) (l : accountValid (t .last) ≡ true) where
+  pub intact-booked : accountValid a ≡ true → totalize code t (energyReply code a) ≡ booked t a
   unfolding totalize
   intact-booked v =
-      let b = read-back a v in
-      let n : replyAnswer (energyReply a) ≡ 0 =
-      passes (energyReply a) (reply-length a) (own-check a) (count-byte a) (rw b (omega (arith, in-range a v))) in
+      let b = read-back code a v in
+      let n : energyAnswer code (energyReply code a) ≡ 0 =
+      passes code (energyReply code a) (reply-length code a) (own-check code a) (count-byte code a) (rw b (omega (arith, in-range a v))) in
       rw (l, n, b)
 
   -- ---- changed: the check is wrong
 
-  wrong-check : (s : List ℕ) → Changed (energyReply a) s → Bytes s → replyCheck s ≡ getD s 7 0 → ⊥
+  wrong-check : (s : List ℕ) → Changed (energyReply code a) s → Bytes s → replyCheck code 7 s ≡ getD s 7 0 → ⊥
   unfolding replyCheck pec pecFrom
   wrong-check s c h e =
-      not-both (pec (0xC0 ∷ 0x86 ∷ 0xC1 ∷ [])) 7 (energyReply a) s (check-lt (0xC0 ∷ 0x86 ∷ 0xC1 ∷ [])) (reply-length a) (reply-bytes a) h c (own-check a) e
+      not-both (pec (readHeader code)) 7 (energyReply code a) s (check-lt (readHeader code)) (reply-length code a) (reply-bytes code a) h c
+      (own-check code a) e
 
-  pub changed-refused : (s : List ℕ) → Changed (energyReply a) s → Bytes s → totalize t s ≡ answered 21 t
+  pub changed-refused : (s : List ℕ) → Changed (energyReply code a) s → Bytes s → totalize code t s ≡ answered 21 t
   unfolding totalize
   changed-refused s c h =
-      let n : replyAnswer s ≡ 21 =
-      bad-check s (sym (c .same-length) ∙ reply-length a) (wrong-check s c h) in
+      let n : energyAnswer code s ≡ 21 =
+      bad-check code s (sym (c .same-length) ∙ reply-length code a) (wrong-check s c h) in
       rw (l, n)

@@ -51,7 +51,7 @@ parts x m y n b e =
     (λ k. absurd (let z : false ≡ true = rw (f, k) at e in let w : _≡_ {A = ℕ} 0 1 = cc in omega arith)))
     (λ f. absurd (let z : false ≡ true = rw f at e in let w : _≡_ {A = ℕ} 0 1 = cc in omega arith))
 
-module _ (a : Account) (t : Totalizer) (h : List Entry) (g : Kept a t h) where
+module _ (code : ℕ) (a : Account) (t : Totalizer) (h : List Entry) (g : Kept a t h) where
   -- ---- at a closed totalizer: the tally only grows
 
   grows : (k : Taken) → some isIntact h ≡ true → Over (tally h) → Over (tally (got intact k ∷ h))
@@ -159,10 +159,10 @@ module _ (a : Account) (t : Totalizer) (h : List Entry) (g : Kept a t h) where
           (record { total = g .totalled .total; samples = g .totalled .samples })
           (inr (record { is-shut = refl; begun = refl; over = rw (sym (next-tally k)) (over next e) }))
 
-  pub after-intact : Kept a (totalize t (energyReply a) .totalizer) (got intact (totalize t (energyReply a)) ∷ h)
+  pub after-intact : Kept a (totalize code t (energyReply code a) .totalizer) (got intact (totalize code t (energyReply code a)) ∷ h)
   unfolding added
   after-intact =
-      rw (intact-booked t a (g .last-valid) (g .account-valid))
+      rw (intact-booked code t a (g .last-valid) (g .account-valid))
       (⊎-elim
       (λ o.
       either (t .started)

@@ -34,6 +34,7 @@ AtEachCopy [] = Unit
 AtEachCopy (took n ∷ h) = AtEachCopy h
 AtEachCopy (got c k ∷ h) = Holds c k (got c k ∷ h) × AtEachCopy h
 
--- For every list of samples and reads, and every choice of copies. Crate history says the same of every list of a device's calls.
+-- For every code that the account is read by, every list of samples and reads, and every choice of copies. Crate history says the same of
+-- every list of a device's calls.
 unfoldable pub Claim : Type 0
-Claim = (es : List Event) → AreEvents powerOn es → AtEachCopy (run powerOn es .log .history)
+Claim = (code : ℕ) (es : List Event) → AreEvents code powerOn es → AtEachCopy (run code powerOn es .log .history)

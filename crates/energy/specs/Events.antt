@@ -34,16 +34,16 @@ logSample l n answer =
 abbrev pub logOutcome : Log → Copy → Taken → Log
 logOutcome l c k = record { totalizer = k .totalizer; history = got c k ∷ l .history }
 
--- the totalizer gets a copy of a reply,
-abbrev pub logCopy : List ℕ → Log → Copy → Log
-logCopy reply l c = logOutcome l c (totalize (l .totalizer) (bytesOf reply c))
+-- the totalizer gets a copy of a reply to a read of the code,
+abbrev pub logCopy : ℕ → List ℕ → Log → Copy → Log
+logCopy code reply l c = logOutcome l c (totalize code (l .totalizer) (bytesOf reply c))
 
 -- or several, one after the other
-unfoldable pub logCopies : List ℕ → Log → List Copy → Log
-logCopies reply l [] = l
-logCopies reply l (c ∷ cs) = logCopies reply (logCopy reply l c) cs
+unfoldable pub logCopies : ℕ → List ℕ → Log → List Copy → Log
+logCopies code reply l [] = l
+logCopies code reply l (c ∷ cs) = logCopies code reply (logCopy code reply l c) cs
 
--- ---- one account
+-- ---- one account, read by a code
 
 -- A power sample of any number, or a read with the copies of its reply that the totalizer gets, in order and as many as one likes (data sheet
 -- 15.6). A copy that comes later makes no difference: the totalizer sees copies alone.
@@ -55,22 +55,22 @@ pub record Run : Type 0 where
   pub account : Account
   pub log : Log
 
-abbrev pub step : Run → Event → Run
-step r (sample n) = record { account = sampled (r .account) n .account; log = logSample (r .log) n (sampled (r .account) n .answer) }
-step r (read cs) = record { account = r .account; log = logCopies (energyReply (r .account)) (r .log) cs }
+abbrev pub step : ℕ → Run → Event → Run
+step code r (sample n) = record { account = sampled (r .account) n .account; log = logSample (r .log) n (sampled (r .account) n .answer) }
+step code r (read cs) = record { account = r .account; log = logCopies code (energyReply code (r .account)) (r .log) cs }
 
-unfoldable pub run : Run → List Event → Run
-run r [] = r
-run r (e ∷ es) = run (step r e) es
+unfoldable pub run : ℕ → Run → List Event → Run
+run code r [] = r
+run code r (e ∷ es) = run code (step code r e) es
 
 abbrev pub powerOn : Run
 powerOn = record { account = account 0 0 0; log = freshLog }
 
 -- the copies are copies of the reply that was read
-abbrev pub IsEvent : Run → Event → Type 0
-IsEvent r (sample n) = Unit
-IsEvent r (read cs) = AreCopies (energyReply (r .account)) cs
+abbrev pub IsEvent : ℕ → Run → Event → Type 0
+IsEvent code r (sample n) = Unit
+IsEvent code r (read cs) = AreCopies (energyReply code (r .account)) cs
 
-unfoldable pub AreEvents : Run → List Event → Type 0
-AreEvents r [] = Unit
-AreEvents r (e ∷ es) = IsEvent r e × AreEvents (step r e) es
+unfoldable pub AreEvents : ℕ → Run → List Event → Type 0
+AreEvents code r [] = Unit
+AreEvents code r (e ∷ es) = IsEvent code r e × AreEvents code (step code r e) es

@@ -8,9 +8,9 @@ use Rattle.pec.specs.Burst.{Changed}
 use Rattle.account.specs.declared.Account.{Account}
 use Rattle.account.specs.Account.{einBytes}
 
--- the energy reply of an account: the data of READ_EIN and the PEC (data sheet 15.6)
-unfoldable pub energyReply : Account → List ℕ
-energyReply a = einBytes a ++ (pec (0xC0 ∷ 0x86 ∷ 0xC1 ∷ einBytes a) ∷ [])
+-- the energy reply of an account that is read by the code, 86h of READ_EIN: its data and the PEC (data sheet 15.6)
+unfoldable pub energyReply : ℕ → Account → List ℕ
+energyReply code a = einBytes a ++ (pec (0xC0 ∷ code ∷ 0xC1 ∷ einBytes a) ∷ [])
 
 -- a copy of a reply: intact, or changed to these bytes
 pub data Copy : Type 0 where

@@ -20,12 +20,12 @@ use Rattle.page.proofs.Bits.{gains-found, gains-made, gains-none, any-found, an
 use Rattle.unpaged.specs.Unpaged.{refused}
 use Rattle.writes.specs.Asked.{wordOf, asked}
 use Rattle.writes.specs.Left.{clearing}
+use Rattle.writes.specs.Accepted.{codeOf}
 use Rattle.device.specs.declared.Device.{Device}
 use Rattle.device.specs.Device.{pageOf, standing, turned, alertRisen, alertStanding}
 use Rattle.device.specs.Step.{Call, write, read, measure, sample, alertResponse, tick, effect, refusedDevice, writtenTo, written, measured, tickedDevice}
 use Rattle.history.specs.Run.{next, answer}
 use Rattle.history.specs.Clearing.{acceptedWrite, reworksAlert, clearingCall}
-use Rattle.history.specs.Accepted.{codeOf}
 use Rattle.history.specs.Alert.{Turned, Stands, answeredAlert, AlertRises, AlertCleared, AlertAnswered}
 use Rattle.history.proofs.Codes.{clearing-code}
 use Rattle.history.proofs.Outcomes.{done-next, refused-next, by-answer, write-next, written-raised, written-standing}

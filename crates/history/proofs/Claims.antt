@@ -1,8 +1,8 @@
 -- The whole of specs/Claims.antt.
 -- Assumes nothing.
+use Rattle.writes.proofs.Accepted.{accepted}
 use Rattle.device.proofs.Touches.{pages-stay}
 use Rattle.history.specs.Claims.{Claims}
-use Rattle.history.proofs.Accepted.{accepted}
 use Rattle.history.proofs.Alert.{alert-rises, alert-cleared, alert-answered}
 use Rattle.history.proofs.Cml.{latches-cml, falls-cml}
 use Rattle.history.proofs.Effects.{effects}

@@ -13,13 +13,13 @@ use Rattle.unpaged.specs.Unpaged.{cmlBits, refused}
 use Rattle.writes.specs.declared.asked.Write.{Write}
 use Rattle.writes.specs.Asked.{wordOf, asked}
 use Rattle.writes.specs.Left.{unpagedLeft}
+use Rattle.writes.specs.Accepted.{codeOf}
 use Rattle.device.specs.declared.Device.{Device}
 use Rattle.device.specs.Device.{alertRisen}
 use Rattle.device.specs.Step.{Call, write, read, measure, sample, alertResponse, tick, effect, refusedDevice, measured, tickedDevice}
 use Rattle.history.specs.Run.{next, answer, cmlBit}
 use Rattle.history.specs.Clearing.{acceptedWrite, clearsStatusCml, clearsCml, FallsCml}
 use Rattle.history.specs.Latching.{LatchesCml}
-use Rattle.history.specs.Accepted.{codeOf}
 use Rattle.history.proofs.Codes.{clearedCml, cleared-cml-code}
 use Rattle.history.proofs.Outcomes.{done-next, refused-next, by-answer, write-next, written-cml}
 use Rattle.history.proofs.PageAfter.{refused-tests, accepted-test}

@@ -24,13 +24,13 @@ use Rattle.writes.specs.declared.asked.Setting.{Setting}
 use Rattle.writes.specs.declared.asked.Write.{Write}
 use Rattle.writes.specs.Asked.{clearFaults, writeOf, wordOf, asked, clearStatus}
 use Rattle.writes.specs.Left.{applied, changed, cleared, pageLeft, unpagedLeft, clearing}
+use Rattle.writes.specs.Accepted.{codeOf}
 use Rattle.device.specs.declared.Device.{Device}
 use Rattle.device.specs.Device.{pageOf, alertRisen, alertStanding}
 use Rattle.device.specs.Step.{Call, write, read, measure, sample, alertResponse, tick, answerOf, effect, step, written, measured, tickedDevice}
 use Rattle.device.proofs.States.{answer-zero}
 use Rattle.device.proofs.Touches.{written-pages, measured-pages}
 use Rattle.history.specs.Run.{next, answer}
-use Rattle.history.specs.Accepted.{codeOf}
 use Rattle.history.specs.Effects.{OnlyQuantity, OnlyMeasured, OnlyWritten, OnlyMachines, Leaves, Effects}
 use Rattle.history.proofs.Outcomes.{done-next, write-next, written-energy, ticked-page-at}
 use Rattle.history.proofs.Runs.{same-length}

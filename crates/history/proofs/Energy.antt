@@ -15,6 +15,7 @@ use Rattle.energy.proofs.Invariant.{Good, at-start, after-sample}
 use Rattle.energy.proofs.Claim.{after-copies}
 use Rattle.command.specs.Table.{table, entryOf, lookup}
 use Rattle.command.specs.Meaning.{commandOf, readingOf}
+use Rattle.writes.specs.Accepted.{codeOf}
 use Rattle.reads.specs.Request.{plainOf, addressedOf, requestOf}
 use Rattle.reads.specs.Answers.{answersData}
 use Rattle.reads.specs.Data.{readData, requestData, checked, readStream}
@@ -23,7 +24,6 @@ use Rattle.device.specs.Device.{powerOn, deviceValid}
 use Rattle.device.specs.Step.{Call, write, read, measure, sample, alertResponse, tick, answerOf, answered, effect, sent, step}
 use Rattle.device.proofs.PowerOn.{powered}
 use Rattle.history.specs.Run.{next, answer}
-use Rattle.history.specs.Accepted.{codeOf}
 use Rattle.history.specs.Energy.{Turn, isEnergyReply, partOf, part, logPart, logAfter, CopiesOf, TrueCopies, TotalsTrusted}
 use Rattle.device.proofs.States.{answer-zero}
 use Rattle.history.proofs.Outcomes.{done-next, by-answer, sends-data}
@@ -35,14 +35,14 @@ use Rattle.history.proofs.Account.{energyOf, refused-keeps, write-keeps
 abbrev einHeader : List ℕ
 einHeader = 0xC0 ∷ 0x86 ∷ 0xC1 ∷ []
 
-of-ein : (d : Device) → answer d (read einHeader 8) ≡ 0 → step d (read einHeader 8) .reply ≡ energyReply (energyOf d)
+of-ein : (d : Device) → answer d (read einHeader 8) ≡ 0 → step d (read einHeader 8) .reply ≡ energyReply 0x86 (energyOf d)
 unfolding
     step sent readStream answersData checked requestOf addressedOf plainOf requestData lookup table entryOf commandOf readingOf readData energyReply
     einBytes
 of-ein d z = rw z
 
 module _ (d : Device) (header : List ℕ) (n : ℕ) where
-  the-reply : isEnergyReply header n (step d (read header n)) ≡ true → step d (read header n) .reply ≡ energyReply (energyOf d)
+  the-reply : isEnergyReply header n (step d (read header n)) ≡ true → step d (read header n) .reply ≡ energyReply 0x86 (energyOf d)
   unfolding answersData
   the-reply e =
       let a = and-eq-true-iff (eqb (codeOf header) 0x86 && eqb n 8) (eqb (answer d (read header n)) 0) .0 e in
@@ -74,7 +74,7 @@ module _ (d : Device) (l : Log) (g : Good (energyOf d) l) where
       (λ e.
       let copies : AreCopies (step d (read header n) .reply) cs = rw e at m in
       let same = the-reply d header n e in
-      rw (e, same) (after-copies (energyOf d) l cs (rw same at copies) g))
+      rw (e, same) (after-copies 0x86 (energyOf d) l cs (rw same at copies) g))
       (λ e. rw e g)
 
   after-call : (c : Call) (cs : List Copy) → CopiesOf cs (partOf c (step d c)) → Good (energyOf (next d c)) (logPart l cs (partOf c (step d c)))

@@ -1,4 +1,3 @@
-pub mod Accepted
 pub mod Codes
 pub mod Outcomes
 pub mod Refusals

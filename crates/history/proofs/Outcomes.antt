@@ -15,6 +15,8 @@ use Rattle.unpaged.specs.Unpaged.{unpagedValid}
 use Rattle.writes.specs.declared.asked.Write.{Write}
 use Rattle.writes.specs.Asked.{asked}
 use Rattle.writes.specs.Left.{unpagedLeft, clearing}
+use Rattle.writes.specs.Accepted.{Acceptable}
+use Rattle.writes.proofs.Accepted.{acceptable, accepting}
 use Rattle.writes.proofs.Kept.{energy-kept}
 use Rattle.reads.specs.Answers.{answersData}
 use Rattle.reads.proofs.Requests.{Sends, sends}
@@ -25,8 +27,7 @@ use Rattle.device.proofs.States.{answered-of}
 use Rattle.device.proofs.Touches.{ticked-pages}
 use Rattle.history.specs.Run.{next, answer}
 use Rattle.history.specs.Refusals.{Refused}
-use Rattle.history.specs.Accepted.{Acceptable, TakesEffect}
-use Rattle.history.proofs.Accepted.{acceptable, accepting}
+use Rattle.history.specs.Accepted.{TakesEffect}
 
 -- a read that sends data has a header C0h, code, C1h
 pub sends-data : (d : Device) (header : List ℕ) (n : ℕ) → answersData (answer d (read header n)) ≡ true → Sends header

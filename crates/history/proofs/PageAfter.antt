@@ -16,6 +16,7 @@ use Rattle.page.specs.Settings.{setMeasurement}
 use Rattle.unpaged.specs.Unpaged.{actsOn}
 use Rattle.writes.specs.Asked.{wordOf, asked}
 use Rattle.writes.specs.Left.{pageLeft}
+use Rattle.writes.specs.Accepted.{codeOf}
 use Rattle.device.specs.declared.Device.{Device}
 use Rattle.device.specs.Device.{pageOf}
 use Rattle.device.specs.Step.{Call, write, read, measure, sample, alertResponse, tick, effect, refusedDevice}
@@ -24,7 +25,6 @@ use Rattle.history.specs.Run.{next, answer}
 use Rattle.history.specs.Clearing.{acceptedWrite, clearsPage, clears}
 use Rattle.history.specs.Tripping.{untripping, untrips}
 use Rattle.history.specs.Retry.{resting, rests}
-use Rattle.history.specs.Accepted.{codeOf}
 use Rattle.history.proofs.Codes.{cleared-code, untripping-code, rests-code}
 use Rattle.history.proofs.PageLeft.{PageLeft, kept, timed, Nothing, nothing, same-left, written-page, measured-page}
 use Rattle.history.proofs.Outcomes.{done-next, refused-next, by-answer, write-next, ticked-page-at}

@@ -22,6 +22,7 @@ use Rattle.page.specs.Status.{reading}
 use Rattle.page.proofs.Chosen.{chosen-reading}
 use Rattle.unpaged.specs.declared.Unpaged.{Unpaged}
 use Rattle.unpaged.specs.Unpaged.{everyPage, actsOn, shown, powerOnUnpaged}
+use Rattle.writes.specs.Accepted.{codeOf}
 use Rattle.reads.specs.Request.{plainOf, addressedOf, requestOf}
 use Rattle.reads.specs.Answers.{dataAnswer, requestAnswer, readAnswer}
 use Rattle.reads.specs.Data.{wordBytes, readData}
@@ -34,7 +35,6 @@ use Rattle.device.proofs.States.{answered-of}
 use Rattle.device.proofs.PowerOn.{powered, powered-sized, granted-number}
 use Rattle.history.specs.Run.{next, answer, run, reached}
 use Rattle.history.specs.Valid.{ReachedValid}
-use Rattle.history.specs.Accepted.{codeOf}
 use Rattle.history.specs.ReadBack.{latest, OnBus, AllOnBus, Reads, stored, storedAt, startsAs, StoredCodes, isUnpaged, stores, writtenData, WrittenBack, WriteThenRead, measures, measuredWord, MeasuredBack}
 use Rattle.history.proofs.Runs.{kept-in-runs, same-length}
 use Rattle.history.proofs.Valid.{valid-after, reached-valid}

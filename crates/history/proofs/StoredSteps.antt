@@ -17,11 +17,11 @@ use Rattle.page.proofs.Chosen.{Sized}
 use Rattle.unpaged.specs.declared.Unpaged.{Unpaged}
 use Rattle.unpaged.specs.Unpaged.{actsOn, refused}
 use Rattle.writes.specs.Asked.{wordOf, asked}
+use Rattle.writes.specs.Accepted.{codeOf}
 use Rattle.device.specs.declared.Device.{Device}
 use Rattle.device.specs.Device.{pageOf}
 use Rattle.device.specs.Step.{Call, write, read, measure, sample, alertResponse, tick, effect, refusedDevice}
 use Rattle.history.specs.Run.{next, answer}
-use Rattle.history.specs.Accepted.{codeOf}
 use Rattle.history.specs.Effects.{Effects, Leaves}
 use Rattle.history.specs.ReadBack.{OnBus, stores, writtenData, measures, measuredWord}
 use Rattle.history.proofs.Outcomes.{done-next, refused-next, by-answer, write-next, ticked-page-at}

@@ -24,6 +24,7 @@ use Rattle.writes.specs.declared.asked.Write.{Write}
 use Rattle.writes.specs.Asked.{pageMasks, wordOf, asked, validSetting, validWrite}
 use Rattle.writes.specs.Answers.{dataAnswer, lengthAnswer, codeAnswer, addressedAnswer, writeAnswer}
 use Rattle.writes.specs.Left.{applied, changed, cleared, pageLeft, unpagedLeft}
+use Rattle.writes.specs.Accepted.{codeOf}
 use Rattle.reads.specs.Answers.{readAnswer}
 use Rattle.reads.specs.Applies.{AnswersApply}
 use Rattle.reads.proofs.Applies.{answers-apply}
@@ -34,7 +35,6 @@ use Rattle.device.proofs.States.{Valid, valid-parts}
 use Rattle.device.proofs.PowerOn.{powered-valid}
 use Rattle.device.proofs.Touches.{written-pages, ticked-pages}
 use Rattle.history.specs.Run.{next, answer, reached}
-use Rattle.history.specs.Accepted.{codeOf}
 use Rattle.history.specs.Valid.{Fifteen, ReachedValid, NoFifteen}
 use Rattle.history.proofs.Codes.{smallSetting, smallResponse, response-code}
 use Rattle.history.proofs.Outcomes.{done-next, refused-next, by-answer, write-next, takes-effect-of, written-unpaged}

@@ -29,6 +29,7 @@ use Rattle.writes.specs.declared.asked.Write.{Write}
 use Rattle.writes.specs.Asked.{asked, writeOf, wordOf}
 use Rattle.writes.specs.Answers.{dataAnswer, lengthAnswer, codeAnswer, addressedAnswer, writeAnswer}
 use Rattle.writes.specs.Left.{pageLeft, unpagedLeft}
+use Rattle.writes.specs.Accepted.{codeOf}
 use Rattle.reads.specs.Request.{requestOf}
 use Rattle.reads.specs.Answers.{readAnswer}
 use Rattle.reads.proofs.Requests.{answer-same}
@@ -37,7 +38,6 @@ use Rattle.device.specs.Device.{Choice, deviceValid, pageOf, pageShown, alertRi
 use Rattle.device.specs.Step.{Call, write, read, measure, sample, alertResponse, tick, answerOf, answered, effect, refusedDevice, step, written, measured, tickedDevice}
 use Rattle.device.proofs.Touches.{written-pages, ticked-pages}
 use Rattle.history.specs.Run.{next, answer, run, reached}
-use Rattle.history.specs.Accepted.{codeOf}
 use Rattle.history.specs.Effects.{OnlyAlert}
 use Rattle.history.specs.Warnings.{warnLimit, AlikePages, Alike, AnswerAlike, StayAlike, WarnLimitsAside}
 use Rattle.history.proofs.AlikePages.{ticked-alike, measured-alike, left-alike, warn-limit-alike, alike-self, valid-alike}

@@ -1,10 +1,11 @@
 -- Everything that is guaranteed of the device, over single calls and over runs from power-on: the table of contents of this folder, a line
 -- for each statement. proofs/Claims.antt proves the whole, so that none goes missing.
 -- Assumes nothing.
+use Rattle.writes.specs.Accepted.{Accepted}
 use Rattle.device.specs.Touches.{PagesStay}
 use Rattle.history.specs.Valid.{Fifteen, ReachedWhole, ReachedValid, NoFifteen}
 use Rattle.history.specs.Refusals.{Refused, Unchanged}
-use Rattle.history.specs.Accepted.{Accepted, TakesEffect}
+use Rattle.history.specs.Accepted.{TakesEffect}
 use Rattle.history.specs.Clearing.{Falls, FallsCml}
 use Rattle.history.specs.Latching.{Latched, Latches, LatchesCml}
 use Rattle.history.specs.Tripping.{Tripped, StaysTripped, Trips}

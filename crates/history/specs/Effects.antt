@@ -6,11 +6,11 @@ use mathlib.Core.List.{List}
 use lib.ListN.{length}
 use Rattle.page.specs.declared.Page.{Page}
 use Rattle.page.specs.Status.{reading}
+use Rattle.writes.specs.Accepted.{codeOf}
 use Rattle.device.specs.declared.Device.{Device}
 use Rattle.device.specs.Device.{pageOf}
 use Rattle.device.specs.Step.{Call, write, read, measure, sample, alertResponse, tick}
 use Rattle.history.specs.Run.{next, answer}
-use Rattle.history.specs.Accepted.{codeOf}
 
 -- d became e: all but the alert stayed (data sheet 8.4),
 pub record OnlyAlert (d e : Device) : Type 0 where

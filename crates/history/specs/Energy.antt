@@ -6,6 +6,7 @@ use Prim.Native.Nat.{ℕ}
 use mathlib.Core.Bool.{Bool, cond, _&&_}
 use mathlib.Core.List.{List, [], _∷_}
 use lib.Dec.{eqb}
+use Rattle.writes.specs.Accepted.{codeOf}
 use Rattle.energy.specs.Reply.{Copy, AreCopies}
 use Rattle.energy.specs.Events.{Log, freshLog, logSample, logCopies}
 use Rattle.energy.specs.Claim.{AtEachCopy}
@@ -13,7 +14,6 @@ use Rattle.device.specs.declared.Device.{Device}
 use Rattle.device.specs.Device.{Choice, powerOn}
 use Rattle.device.specs.Step.{Call, write, read, measure, sample, alertResponse, tick, Result, step}
 use Rattle.history.specs.Run.{next}
-use Rattle.history.specs.Accepted.{codeOf}
 
 -- A call of any kind with any numbers, refused or not, and the copies of its reply that the totalizer gets; they count only where the call
 -- leaves an energy reply (data sheet 15.6).
@@ -46,7 +46,7 @@ part d t = partOf (t .call) (step d (t .call))
 -- the log l after a call: a sample that was taken is noted, copies of a reply go to the totalizer
 unfoldable pub logPart : Log → List Copy → Part → Log
 logPart l copies (powerSample n answer) = logSample l n answer
-logPart l copies (energyReply reply) = logCopies reply l copies
+logPart l copies (energyReply reply) = logCopies 0x86 reply l copies
 logPart l copies none = l
 
 -- the log after a list of calls, each on the state that the one before it left

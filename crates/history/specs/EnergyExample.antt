@@ -12,7 +12,8 @@ use Rattle.pec.specs.Burst.{bits8, busBits, Changed}
 use Rattle.energy.specs.Reply.{Copy, intact, changed, AreCopies}
 use Rattle.energy.specs.Events.{took, got, freshLog, logCopies}
 use Rattle.account.specs.Account.{account, accountValid, added, sampled, einBytes, accountOf, energyReading}
-use Rattle.totalizer.specs.Totalizer.{totalizer, answered, freshTotalizer, replyCheck, replyAnswer, nextEnergy, nextSamples, booked, totalize}
+use Rattle.replies.specs.Replies.{clockedFor, replyCheck, checkHolds, accountAnswer, replyAnswer}
+use Rattle.totalizer.specs.Totalizer.{totalizer, answered, freshTotalizer, nextEnergy, nextSamples, booked, totalize}
 use Rattle.totalizer.specs.Totalizer as totalizing
 use Rattle.pec.specs.Pec.{pec, pecFrom, pecByte, pecBit}
 use Rattle.command.specs.Table.{table, entryOf, lookup}
@@ -83,7 +84,8 @@ pub copies-and-history :
     ∷ [])
 unfolding
     turns TrueCopies CopiesOf AreCopies logAfter partOf logPart logCopies accountValid added sampled einBytes accountOf freshTotalizer
-    energyReading replyCheck replyAnswer nextEnergy nextSamples booked totalize totalizing.added pec pecFrom pecByte pecBit table
+    energyReading clockedFor replyCheck checkHolds accountAnswer replyAnswer nextEnergy nextSamples booked totalize totalizing.added pec
+    pecFrom pecByte pecBit table
     entryOf lookup commandOf readingOf powerOnPage pageValid validOperation allValid causes powerOnUnpaged validPage validProtect unpagedValid
     refused shown plainOf addressedOf requestOf dataAnswer requestAnswer readAnswer answersData readData requestData checked readStream usual chosenPage
     chosenUnpaged powerOn supported deviceValid step

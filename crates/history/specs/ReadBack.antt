@@ -12,11 +12,11 @@ use Rattle.cause.specs.Causes.{readCodes}
 use Rattle.command.specs.Table.{lookup}
 use Rattle.page.specs.Choice.{PageChoice}
 use Rattle.unpaged.specs.Unpaged.{actsOn}
+use Rattle.writes.specs.Accepted.{codeOf}
 use Rattle.device.specs.declared.Device.{Device}
 use Rattle.device.specs.Device.{Choice, numberOf, choiceAt, granted, powerOn}
 use Rattle.device.specs.Step.{Call, write, read, measure, sample, alertResponse, tick, step}
 use Rattle.history.specs.Run.{next, answer, reached}
-use Rattle.history.specs.Accepted.{codeOf}
 
 -- what the latest call of a run from d that passes a test gave, or else `old`
 unfoldable pub latest : {A : Type 0} → (Device → Call → Bool) → (Call → A) → Device → List Call → A → A

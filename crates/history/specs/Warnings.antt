@@ -12,11 +12,11 @@ use Rattle.cause.specs.Causes.{warnings, register}
 use Rattle.page.specs.declared.Page.{Page}
 use Rattle.page.specs.Latching.{statusBit}
 use Rattle.page.specs.Status.{supplies}
+use Rattle.writes.specs.Accepted.{codeOf}
 use Rattle.device.specs.declared.Device.{Device}
 use Rattle.device.specs.Device.{Choice, pageOf}
 use Rattle.device.specs.Step.{Call, write, read, measure, sample, alertResponse, tick, step}
 use Rattle.history.specs.Run.{next, answer, reached}
-use Rattle.history.specs.Accepted.{codeOf}
 
 -- bit k of register j is a warning's,
 unfoldable pub warningBit : ℕ → ℕ → Bool

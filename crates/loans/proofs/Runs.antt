@@ -8,6 +8,7 @@ use lib.Dec.{eqb}
 use lib.ListN.{length}
 use Rattle.laws.proofs.Branches.{either}
 use Rattle.page.specs.declared.Page.{Page}
+use Rattle.writes.specs.Accepted.{codeOf}
 use Rattle.energy.specs.Reply.{Copy}
 use Rattle.energy.specs.Events.{Log, freshLog}
 use Rattle.device.specs.declared.Device.{Device}
@@ -15,7 +16,6 @@ use Rattle.device.specs.Device.{device, Choice, powerOn, supported}
 use Rattle.device.specs.Step.{Call, write, read, measure, sample, alertResponse, tick, step}
 use Rattle.device.proofs.PowerOn.{granted-number}
 use Rattle.history.specs.Run.{next, answer, run}
-use Rattle.history.specs.Accepted.{codeOf}
 use Rattle.history.specs.Energy.{Turn, isEnergyReply, partOf, part, logPart, logAfter, TrueCopies, TotalsTrusted}
 use Rattle.history.proofs.Energy.{totals-trusted}
 use Rattle.lent.specs.Lent.{poweredBy}

@@ -7,12 +7,12 @@ use mathlib.Core.Bool.{Bool, not, _&&_}
 use mathlib.Core.List.{List, [], _∷_}
 use lib.ListN.{length, getD}
 use lib.Dec.{ltb, eqb}
+use Rattle.laws.specs.Lines.{Line, lowest}
 use Rattle.command.specs.Table.{lookup}
 use Rattle.command.specs.Paged.{paged}
 use Rattle.page.specs.declared.Page.{Page}
 use Rattle.unpaged.specs.declared.Unpaged.{Unpaged}
 use Rattle.unpaged.specs.Unpaged.{everyPage}
-use Rattle.unpaged.specs.Applies.{Line, lowest}
 use Rattle.reads.specs.Answers.{readAnswer}
 
 -- of a header: the code, and the number of data bytes that the table gives it

@@ -10,8 +10,9 @@ use Rattle.linear11.specs.Linear11.{signedOf, mantissa, exponent, scaledOf, wor
 use Rattle.pec.specs.Pec.{pec, pecFrom, pecByte, pecBit}
 use Rattle.account.specs.declared.Account.{Account}
 use Rattle.account.specs.Account.{account, accountValid, added, sampled, energyReading, einBytes, accountOf}
+use Rattle.replies.specs.Replies.{clockedFor, replyCheck, checkHolds, accountAnswer, replyAnswer}
 use Rattle.totalizer.specs.declared.Taken.{Taken}
-use Rattle.totalizer.specs.Totalizer.{totalizer, replyCheck, replyAnswer, nextEnergy, nextSamples, booked, totalize}
+use Rattle.totalizer.specs.Totalizer.{totalizer, nextEnergy, nextSamples, booked, totalize}
 use Rattle.totalizer.specs.Totalizer as totalizing
 use Rattle.energy.specs.Reply.{energyReply}
 use Rattle.page.specs.Page.{powerOnPage}
@@ -46,7 +47,10 @@ table =
     -- a rollover; the sample is counted
     ∷ (fields (sampled (account 0x7FFE 0 0) 3 .account), numbers (1 ∷ 1 ∷ 1 ∷ []))
     -- the wrap of both counters: answer 0, totals 1 and 1
-    ∷ (outcome (totalize (totalizer true false (account 0x7FFF 255 16777215) 0 0) (energyReply (account 0 0 0))), numbers (0 ∷ 1 ∷ 1 ∷ []))
+    ∷ (
+      outcome (totalize 0x86 (totalizer true false (account 0x7FFF 255 16777215) 0 0) (energyReply 0x86 (account 0 0 0))),
+      numbers (0 ∷ 1 ∷ 1 ∷ []),
+    )
     ∷ (overvoltage 0x2A3D, numbers (0 ∷ []))  -- VOUT 2A3Dh no cause
     ∷ (overvoltage 0x2A3E, numbers (1 ∷ []))  -- VOUT 2A3Eh cause
     ∷ []
@@ -55,6 +59,7 @@ table =
 pub sheet : map (λ row. row .0) table ≡ map (λ row. row .1) table
 unfolding
     scaledOf mantissa exponent signedOf wordOrder orderOf linearOrder pec pecFrom pecByte pecBit accountValid added sampled
-    energyReading einBytes accountOf replyCheck replyAnswer nextEnergy nextSamples booked totalize totalizing.added energyReply powerOnPage
+    energyReading einBytes accountOf clockedFor replyCheck checkHolds accountAnswer replyAnswer nextEnergy nextSamples booked totalize
+    totalizing.added energyReply powerOnPage
     setMeasurement orderBy onSide crossed presentCauses causes warnings
 sheet = refl

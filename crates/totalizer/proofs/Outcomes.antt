@@ -7,13 +7,14 @@ use mathlib.Core.List.{List}
 use native.Mathlib.Omega.{arith}
 use lib.Dec.{ltb, leb}
 use lib.ListN.{length, getD}
-use borrow.Author.Tests.{ltb-true, ltb-false, lt-ltb, le-ltb, le-leb, lt-leb, eq-eqb, ne-eqb}
+use borrow.Author.Tests.{ltb-true, ltb-false, lt-ltb, le-leb, lt-leb, eq-eqb, ne-eqb}
 use Rattle.laws.proofs.Branches.{either}
 use Rattle.account.specs.declared.Account.{Account}
 use Rattle.account.specs.Account.{accountValid, energyReading, accountOf}
 use Rattle.account.proofs.Laws.{in-range}
+use Rattle.replies.specs.Replies.{clockedFor, replyCheck, checkHolds, accountAnswer, replyAnswer}
 use Rattle.totalizer.specs.declared.Totalizer.{Totalizer}
-use Rattle.totalizer.specs.Totalizer.{totalizer, answered, replyCheck, replyAnswer, added, booked}
+use Rattle.totalizer.specs.Totalizer.{totalizer, answered, energyAnswer, added, booked}
 
 -- ---- a valid account's reading has 23 bits
 
@@ -23,23 +24,14 @@ reading-lt a v = omega (arith, in-range a v)
 
 -- ---- a reply of eight bytes
 
-module _ (s : List ℕ) (l : length s ≡ 8) where
-  pub bad-check : (replyCheck s ≡ getD s 7 0 → ⊥) → replyAnswer s ≡ 21
-  unfolding replyAnswer
+module _ (code : ℕ) (s : List ℕ) (l : length s ≡ 8) where
+  pub bad-check : (replyCheck code 7 s ≡ getD s 7 0 → ⊥) → energyAnswer code s ≡ 21
+  unfolding replyAnswer clockedFor checkHolds
   bad-check h = rw (eq-eqb _ _ l, ne-eqb _ _ h)
 
-  module _ (h : replyCheck s ≡ getD s 7 0) where
-    pub bad-count-byte : (getD s 0 0 ≡ 6 → ⊥) → replyAnswer s ≡ 22
-    unfolding replyAnswer
-    bad-count-byte k = rw (eq-eqb _ _ l, eq-eqb _ _ h, ne-eqb _ _ k)
-
-    pub bad-accumulator : getD s 0 0 ≡ 6 → 0x7FFF < accountOf s .accumulator → replyAnswer s ≡ 23
-    unfolding replyAnswer
-    bad-accumulator k m = rw (eq-eqb _ _ l, eq-eqb _ _ h, eq-eqb _ _ k, lt-ltb _ _ m)
-
-    pub passes : getD s 0 0 ≡ 6 → accountOf s .accumulator ≤ 0x7FFF → replyAnswer s ≡ 0
-    unfolding replyAnswer
-    passes k m = rw (eq-eqb _ _ l, eq-eqb _ _ h, eq-eqb _ _ k, le-ltb _ _ m)
+  pub passes : replyCheck code 7 s ≡ getD s 7 0 → getD s 0 0 ≡ 6 → accountOf s .accumulator < 32768 → energyAnswer code s ≡ 0
+  unfolding replyAnswer clockedFor checkHolds accountAnswer
+  passes h k m = rw (eq-eqb _ _ l, eq-eqb _ _ h, eq-eqb _ _ k, lt-ltb _ _ m)
 
 -- ---- a total of 64 bits
 

@@ -2,12 +2,11 @@
 -- Assumes nothing.
 use Prim.Native.Nat.{ℕ, _+_, _-_, _%_, _^_}
 use mathlib.Core.Bool.{Bool, true, false, cond, _&&_, not}
-use mathlib.Core.List.{List, _∷_}
+use mathlib.Core.List.{List}
 use lib.Dec.{ltb, eqb}
-use lib.ListN.{length, take, getD}
-use Rattle.pec.specs.Pec.{pec}
 use Rattle.account.specs.declared.Account.{Account}
 use Rattle.account.specs.Account.{account, accountValid, energyReading, accountOf}
+use Rattle.replies.specs.Replies.{replyAnswer}
 use Rattle.totalizer.specs.declared.Totalizer.{Totalizer}
 use Rattle.totalizer.specs.declared.Taken.{Taken}
 
@@ -25,17 +24,9 @@ freshTotalizer = totalizer false false (account 0 0 0) 0 0
 abbrev pub gap : ℕ → ℕ → ℕ → ℕ
 gap m last new = (new + m - last) % m
 
--- the packet check of a reply, over the header that every reply has and the seven data bytes (data sheet 10.2)
-unfoldable pub replyCheck : List ℕ → ℕ
-replyCheck s = pec (0xC0 ∷ 0x86 ∷ 0xC1 ∷ take 7 s)
-
--- the tests of a reply in order, 0 where it passes them (data sheet 10.3)
-unfoldable pub replyAnswer : List ℕ → ℕ
-replyAnswer s =
-    cond (not (eqb (length s) 8)) 20
-    (cond (not (eqb (replyCheck s) (getD s 7 0))) 21
-    (cond (not (eqb (getD s 0 0) 6)) 22
-    (cond (ltb 0x7FFF (accountOf s .accumulator)) 23 0)))
+-- the tests of an energy reply, an account's seven data bytes and the packet check: those of every host's replies (data sheet 10.2, 10.3)
+abbrev pub energyAnswer : ℕ → List ℕ → ℕ
+energyAnswer code s = replyAnswer code 7 true true s
 
 -- the totals with the differences from the account kept (data sheet 10.5)
 unfoldable pub nextEnergy : Totalizer → Account → ℕ
@@ -58,9 +49,10 @@ booked t a =
     (cond (not (t .started)) (answered 0 (totalizer true false a 0 0))
     (added t a))
 
--- one reply; a totalizer that is not valid, and a reply that fails a test, leave everything (data sheet 10.3, 12.3)
-unfoldable pub totalize : Totalizer → List ℕ → Taken
-totalize t s =
+-- one reply to a read of the code, 86h of READ_EIN (data sheet 10.2, 18.8); a totalizer that is not valid, and a reply that fails a test,
+-- leave everything (data sheet 10.3, 12.3)
+unfoldable pub totalize : ℕ → Totalizer → List ℕ → Taken
+totalize code t s =
     cond (not (accountValid (t .last))) (answered 15 t)
-    (cond (not (eqb (replyAnswer s) 0)) (answered (replyAnswer s) t)
+    (cond (not (eqb (energyAnswer code s) 0)) (answered (energyAnswer code s) t)
     (booked t (accountOf s)))

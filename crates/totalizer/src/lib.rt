@@ -4,9 +4,11 @@ ghost use mathlib.Core.Path.{_≡_};
 ghost use mathlib.Core.Bool.{true, false, _&&_};
 ghost use Prim.Native.Nat.{_+_, _<_, _^_};
 ghost use lib.Dec.{ltb};
-ghost use lib.ListN.{length};
 ghost use Rattle.account.specs.Account.{accountValid};
-ghost use Rattle.totalizer.specs.Totalizer.{totalizer, answered, freshTotalizer, gap, replyCheck, replyAnswer, added, booked, totalize};
+ghost use Rattle.totalizer.specs.Totalizer.{totalizer, answered, freshTotalizer, gap, added, booked, totalize};
+
+// The data bytes of an account (data sheet 9.5).
+const ACCOUNT_BYTES: u8 = 7;
 
 #[repr(C)]
 pub struct Totalizer {
@@ -51,35 +53,6 @@ pub fn fresh() -> Totalizer
         count: 0,
     };
     zero_totals(false, none)
-}
-
-// The packet check of the known header and the first seven bytes of a reply.
-fn reply_check(reply: &[u8]) -> u8
-    requires { ⌜ length (now reply) ≡ 8 ⌝ }
-    ensures { λ r. ⌜ r ≡ replyCheck (now (reply .entry)) ⌝ }
-{
-    let header = pec::pec_byte(pec::pec_byte(pec::pec_byte(0, 0xC0), 0x86), 0xC1);
-    pec::pec_from(header, &reply[..7])
-}
-
-// What speaks against a reply by itself, or 0.
-fn reply_answer(reply: &[u8]) -> u8
-    ensures { λ r. ⌜ r ≡ replyAnswer (now (reply .entry)) ⌝ }
-{
-    if reply.len() != 8 {
-        return answer::WRONG_REPLY_LENGTH;
-    }
-    if reply_check(reply) != reply[7] {
-        return answer::WRONG_REPLY_PEC;
-    }
-    if reply[0] != 6 {
-        return answer::WRONG_COUNT_BYTE;
-    }
-    let a = account::account_from(reply);
-    if a.accumulator > 0x7FFF {
-        return answer::ACCUMULATOR_TOO_LARGE;
-    }
-    answer::DONE
 }
 
 // How far 23 bit energy readings went forward.
@@ -165,9 +138,9 @@ fn booked(t: Totalizer, a: account::Account) -> Taken
     added(t, a)
 }
 
-// One reply: READ_EIN's seven bytes and the PEC.
-pub fn take(t: Totalizer, reply: &[u8]) -> Taken
-    ensures { λ r. ⌜ r ≡ totalize t (now (reply .entry)) ⌝ }
+// One reply to a read of the code, 86h of READ_EIN: an account's seven bytes and the PEC.
+pub fn take(t: Totalizer, code: u8, reply: &[u8]) -> Taken
+    ensures { λ r. ⌜ r ≡ totalize code t (now (reply .entry)) ⌝ }
 {
     let last = t.last;
     if !account::account_valid(last) {
@@ -176,7 +149,7 @@ pub fn take(t: Totalizer, reply: &[u8]) -> Taken
             answer: answer::INVALID_STATE,
         };
     }
-    let answer = reply_answer(reply);
+    let answer = replies::reply_answer(code, ACCOUNT_BYTES, true, true, reply);
     if answer != answer::DONE {
         return Taken {
             totalizer: t,

@@ -7,10 +7,11 @@ use mathlib.Core.List.{List, [], _∷_}
 use native.Mathlib.Omega.{arith}
 use lib.Dec.{ltb, leb, eqb}
 use borrow.Author.Tests.{eq-eqb}
+use Rattle.laws.specs.Lines.{Line, lowest}
 use Rattle.laws.specs.Lists.{anyOf}
 use Rattle.laws.proofs.Branches.{either}
 use Rattle.unpaged.specs.Events.{measureAnswer, alertAnswer}
-use Rattle.unpaged.specs.Applies.{Line, lowest, AnswersApply}
+use Rattle.unpaged.specs.Applies.{AnswersApply}
 
 measured : (a b : Bool) → _≡_ {A = ℕ} (cond a 12 (cond b 12 0)) (cond (a || b) 12 0)
 measured true b = refl

@@ -3,20 +3,12 @@
 -- Assumes nothing.
 use Prim.Native.Nat.{ℕ}
 use mathlib.Core.Path.{_≡_}
-use mathlib.Core.Bool.{Bool, cond, not, _||_}
+use mathlib.Core.Bool.{Bool, not, _||_}
 use mathlib.Core.List.{List, [], _∷_}
 use lib.Dec.{ltb, leb, eqb}
+use Rattle.laws.specs.Lines.{Line, lowest}
 use Rattle.laws.specs.Lists.{anyOf}
 use Rattle.unpaged.specs.Events.{measureAnswer, alertAnswer}
-
--- a number, and whether it applies
-abbrev pub Line : Type 0
-Line = ℕ × Bool
-
--- of lines with rising numbers the first that applies, which is the lowest; 0 where none does (data sheet 11.1)
-abbrev pub lowest : List Line → ℕ
-lowest [] = 0
-lowest (l ∷ ls) = cond (l .1) (l .0) (lowest ls)
 
 -- x is one of the numbers l
 abbrev pub isIn : ℕ → List ℕ → Bool

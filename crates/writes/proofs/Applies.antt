@@ -8,6 +8,7 @@ use native.Mathlib.Omega.{arith}
 use lib.ListN.{length, getD, take}
 use lib.Dec.{ltb, eqb}
 use borrow.Author.Tests.{eqb-true, eqb-false, ltb-false, eq-eqb, ne-eqb, lt-ltb, le-ltb}
+use Rattle.laws.specs.Lines.{lowest}
 use Rattle.laws.specs.Lists.{Bytes}
 use Rattle.laws.proofs.Branches.{either}
 use Rattle.laws.proofs.Every.{agree, agree-test}
@@ -21,7 +22,7 @@ use Rattle.command.specs.declared.meaning.Command.the-variants.{SelectPage, Ope
 use Rattle.page.specs.Settings.{validOperation, validResponse}
 use Rattle.unpaged.specs.declared.Unpaged.{Unpaged}
 use Rattle.unpaged.specs.Unpaged.{validPage, validProtect}
-use Rattle.unpaged.specs.Applies.{lowest, isIn}
+use Rattle.unpaged.specs.Applies.{isIn}
 use Rattle.writes.specs.Asked.{clearFaults, clearStatus, writeOf, asked, validSetting, validWrite}
 use Rattle.writes.specs.Answers.{checkRight, permitted, dataAnswer, lengthAnswer, codeAnswer, addressedAnswer, writeAnswer}
 use Rattle.writes.specs.Applies.{permittedAt, validFor, code, given, due, AnswersApply}

@@ -8,11 +8,12 @@ use mathlib.Core.Bool.{Bool, true, cond, not, _&&_, _||_}
 use mathlib.Core.List.{List, [], _∷_}
 use lib.ListN.{length, getD, take}
 use lib.Dec.{ltb, eqb}
+use Rattle.laws.specs.Lines.{Line, lowest}
 use Rattle.laws.specs.Lists.{Bytes}
 use Rattle.pec.specs.Pec.{pec}
 use Rattle.command.specs.Table.{lookup}
 use Rattle.unpaged.specs.declared.Unpaged.{Unpaged}
-use Rattle.unpaged.specs.Applies.{Line, lowest, isIn}
+use Rattle.unpaged.specs.Applies.{isIn}
 use Rattle.writes.specs.Answers.{writeAnswer}
 
 -- the codes that a level of WRITE_PROTECT permits (data sheet 4.1); what is no level is as strict as 80h

@@ -2,3 +2,4 @@ pub mod Asked
 pub mod Answers
 pub mod Left
 pub mod Applies
+pub mod Accepted

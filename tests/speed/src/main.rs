@@ -3,6 +3,7 @@
 
 mod calls;
 mod frames;
+mod host;
 mod lent;
 mod race;
 mod routines;
@@ -36,6 +37,9 @@ fn main() {
 
     println!();
     stream::tables();
+
+    println!();
+    host::tables();
 
     let arguments: Vec<String> = std::env::args().skip(1).collect();
     if let [bench, reference, file] = &arguments[..] {

@@ -1,6 +1,6 @@
 //! The straightforward Rust routines: the second program's methods behind the library's signatures, the state by value in and
-//! back, and the same by `&mut`; and the steps of a streaming device written for this comparison. None is inlined into the loop that times
-//! it, as the library's functions are not.
+//! back, and the same by `&mut`; and, written for this comparison, the steps of a streaming device and the host's frames and replies. None
+//! is inlined into the loop that times it, as the library's functions are not.
 
 use reference::device::Device;
 use reference::pec;
@@ -60,14 +60,17 @@ static TABLE: [u8; 256] = {
     table
 };
 
-/// A look-up a byte.
-#[inline(never)]
-pub fn pec_by_table(bytes: &[u8]) -> u8 {
-    let mut crc: u8 = 0;
+/// A look-up a byte, going on from a value.
+fn by_table(mut crc: u8, bytes: &[u8]) -> u8 {
     for &byte in bytes {
         crc = TABLE[usize::from(crc ^ byte)];
     }
     crc
+}
+
+#[inline(never)]
+pub fn pec_by_table(bytes: &[u8]) -> u8 {
+    by_table(0, bytes)
 }
 
 pub mod by_value {
@@ -340,5 +343,132 @@ pub mod plain {
         let byte = part.reply.get(usize::from(part.clocked)).copied();
         part.clocked = (part.clocked + 1).min(9);
         byte.unwrap_or(0xFF)
+    }
+}
+
+/// The host's frames and replies on slices: the table as a match, the PEC by look-ups, nothing allocated.
+pub mod host {
+    use super::by_table;
+    use conformance::library::{Account, Built, Reply};
+
+    const NOTHING: Account = Account {
+        accumulator: 0,
+        rollover: 0,
+        count: 0,
+    };
+
+    /// Data bytes of a code that may be written.
+    fn written(code: u8) -> Option<usize> {
+        match code {
+            0x03 => Some(0),
+            0x00 | 0x01 | 0x10 | 0x41 | 0x47 | 0x50 | 0x54 | 0x56 | 0x5A | 0x7A..=0x7E => Some(1),
+            0x21 | 0x40 | 0x42 | 0x46 | 0x4A | 0x4F | 0x51 | 0x53 | 0x55 | 0x57..=0x59 => Some(2),
+            _ => None,
+        }
+    }
+
+    /// Data bytes of a code that may be read.
+    fn readable(code: u8) -> Option<usize> {
+        match code {
+            0x03 => None,
+            0x19 | 0x20 | 0x78 | 0x98 => Some(1),
+            0x79 | 0x88 | 0x8B..=0x8D => Some(2),
+            0x86 => Some(7),
+            _ => written(code),
+        }
+    }
+
+    fn refused(answer: u8) -> Built {
+        Built {
+            answer,
+            length: 0,
+            count: 0,
+        }
+    }
+
+    fn room(buffer: &mut [u8], place: usize, length: usize) -> Option<&mut [u8]> {
+        buffer.get_mut(place..place.checked_add(length)?)
+    }
+
+    #[inline(never)]
+    pub fn write(buffer: &mut [u8], place: usize, code: u8, data: &[u8], check: bool) -> Built {
+        let Some(due) = written(code) else {
+            return refused(3);
+        };
+        if data.len() != due {
+            return refused(if data.len() < due { 5 } else { 6 });
+        }
+        let end = 2 + due;
+        let length = end + usize::from(check);
+        let Some(frame) = room(buffer, place, length) else {
+            return refused(26);
+        };
+        frame[..2].copy_from_slice(&[0xC0, code]);
+        frame[2..end].copy_from_slice(data);
+        if check {
+            frame[end] = by_table(0, &frame[..end]);
+        }
+        Built {
+            answer: 0,
+            length,
+            count: 0,
+        }
+    }
+
+    #[inline(never)]
+    pub fn read(buffer: &mut [u8], place: usize, code: u8, check: bool) -> Built {
+        let Some(data) = readable(code) else {
+            return refused(3);
+        };
+        let header = [0xC0, code, 0xC1];
+        let Some(frame) = room(buffer, place, header.len()) else {
+            return refused(26);
+        };
+        frame.copy_from_slice(&header);
+        Built {
+            answer: 0,
+            length: header.len(),
+            count: data + usize::from(check),
+        }
+    }
+
+    /// The byte, word or account of a reply, or the refusal.
+    fn fields(code: u8, check: bool, bytes: &[u8]) -> Result<(u8, u16, Account), u8> {
+        let number = readable(code).ok_or(3)?;
+        if bytes.len() != number + usize::from(check) {
+            return Err(20);
+        }
+        let data = &bytes[..number];
+        if check && by_table(by_table(0, &[0xC0, code, 0xC1]), data) != bytes[number] {
+            return Err(21);
+        }
+        match *data {
+            [byte] => Ok((byte, 0, NOTHING)),
+            [low, high] => Ok((0, u16::from_le_bytes([low, high]), NOTHING)),
+            [6, _, 0x80..=0xFF, ..] => Err(23),
+            [6, low, high, rollover, a, b, c] => {
+                let account = Account {
+                    accumulator: u16::from_le_bytes([low, high]),
+                    rollover: u16::from(rollover),
+                    count: u32::from_le_bytes([a, b, c, 0]),
+                };
+                Ok((0, 0, account))
+            }
+            _ => Err(22),
+        }
+    }
+
+    #[inline(never)]
+    pub fn reply(code: u8, check: bool, bytes: &[u8]) -> Reply {
+        let (answer, (byte, word, account)) = match fields(code, check, bytes) {
+            Ok(fields) => (0, fields),
+            Err(answer) => (answer, (0, 0, NOTHING)),
+        };
+        Reply {
+            answer,
+            byte,
+            word,
+            account,
+        }
     }
 }

@@ -1,13 +1,13 @@
--- `totalizer::reply_check` meets its contract.
+-- `replies::reply_check` meets its contract.
 -- Assumes nothing.
 use mathlib.Core.Path.{sym}
 use native.Mathlib.Omega.{arith}
 use lib.Seq.{length-take-le}
 use borrow.Author.Needs.{needs}
 use Rattle.pec.specs.Pec.{pec, pecFrom}
-use Rattle.totalizer.specs.Totalizer.{replyCheck}
-use Rattle.totalizer.proofs.reply_check.Statement.{statement}
-use Rattle.totalizer.proofs.reply_check.Tie as tie
+use Rattle.replies.specs.Replies.{replyCheck}
+use Rattle.replies.proofs.reply_check.Statement.{statement}
+use Rattle.replies.proofs.reply_check.Tie as tie
 
 pec-byte-requires : tie.Need-pec-byte-requires
 pec-byte-requires c κs = search needs
@@ -19,8 +19,7 @@ pec-byte-requires-3 : tie.Need-pec-byte-requires-3
 pec-byte-requires-3 c κs = search needs
 
 slice-aggregate-pec-from : tie.Need-slice-aggregate-pec-from
-slice-aggregate-pec-from c =
-    sym (length-take-le 7 (c .before .before .before .before .before .args .reply .now) (omega arith))
+slice-aggregate-pec-from c = let a = c .before .before .before .before .before .args in sym (length-take-le (a .k) (a .reply .now) (omega arith))
 
 pec-from-requires : tie.Need-pec-from-requires
 pec-from-requires c κs = search needs

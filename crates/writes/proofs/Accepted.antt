@@ -13,10 +13,10 @@ use Rattle.laws.proofs.Branches.{either}
 use Rattle.pec.specs.Pec.{pec}
 use Rattle.command.specs.Table.{lookup}
 use Rattle.unpaged.specs.declared.Unpaged.{Unpaged}
 use Rattle.writes.specs.declared.asked.Write.{Write}
 use Rattle.writes.specs.Asked.{asked, validWrite}
 use Rattle.writes.specs.Answers.{permitted, dataAnswer, lengthAnswer, codeAnswer, addressedAnswer, writeAnswer, checkRight}
-use Rattle.history.specs.Accepted.{codeOf, RightPec, Acceptable, Accepted}
+use Rattle.writes.specs.Accepted.{codeOf, RightPec, Acceptable, Accepted}
 
 -- a choice that comes to 0 though one side does not
 only-yes : (b : Bool) (x y : ℕ) → (y ≡ 0 → ⊥) → cond b x y ≡ 0 → (b ≡ true) × (x ≡ 0)
