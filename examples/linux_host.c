@@ -21,8 +21,8 @@
 
 enum { TRIES = 2, PERIOD = 1 };
 
-/* The limit that every page gets: 8 A, which is not that of power-on. */
-enum { LIMIT = TONGSORREL_CODE_IOUT_OC_WARN_LIMIT, LIMIT_WORD = 0xD200 };
+/* The limit that every page gets, which is not that of power-on. */
+enum { LIMIT = TONGSORREL_CODE_IOUT_OC_WARN_LIMIT, LIMIT_MILLIAMPERES = 8000 };
 
 /* ---- words for numbers */
 
@@ -41,6 +41,7 @@ static const name answers[] = {
     {TONGSORREL_WRONG_COUNT_BYTE, "the reply has another count byte"},
     {TONGSORREL_ACCUMULATOR_TOO_LARGE, "the accumulator is too large"},
     {TONGSORREL_TOTAL_FULL, "a total is full"},
+    {TONGSORREL_OUT_OF_RANGE, "no word stands for such a number"},
     {TONGSORREL_NO_ROOM, "the frame does not fit into the buffer"},
     {0, NULL},
 };
@@ -176,7 +177,9 @@ static bool stands(host *h) {
 
 /* The limit on each page, and a fresh totalizer. A power-on in the middle of this shows at the next report of a page. */
 static bool set_up(host *h) {
-    h->limit = LIMIT_WORD;
+    const tongsorrel_converted limit = tongsorrel_host_from_thousandths(LIMIT_MILLIAMPERES);
+    if (limit.answer != TONGSORREL_DONE) return refused(LIMIT, text_of(answers, limit.answer));
+    h->limit = limit.word;
     h->totals = tongsorrel_host_totalizer_fresh();
     for (uint8_t page = 0; page < TONGSORREL_PAGES; page++)
         if (!set(TONGSORREL_CODE_PAGE, page, 1) || !set(LIMIT, h->limit, 2)) return false;
@@ -184,11 +187,14 @@ static bool set_up(host *h) {
 }
 
 /* What is measured on a page. */
-static const name quantities[] = {
-    {TONGSORREL_CODE_READ_VOUT, "VOUT"},
-    {TONGSORREL_CODE_READ_IOUT, "IOUT"},
-    {TONGSORREL_CODE_READ_VIN, "VIN"},
-    {TONGSORREL_CODE_READ_TEMPERATURE_1, "temperature"},
+static const struct quantity {
+    uint8_t code;
+    const char *label, *unit;
+} quantities[] = {
+    {TONGSORREL_CODE_READ_VOUT, "VOUT", "V"},
+    {TONGSORREL_CODE_READ_IOUT, "IOUT", "A"},
+    {TONGSORREL_CODE_READ_VIN, "VIN", "V"},
+    {TONGSORREL_CODE_READ_TEMPERATURE_1, "temperature", "C"},
 };
 
 /* The registers that STATUS_WORD sums up: its bit for any of theirs, and the names of theirs. */
@@ -220,11 +226,17 @@ static bool read_page(uint8_t page, page_reading *p) {
     for (int i = 0; i < REGISTERS; i++)
         if ((p->status.fields.word & registers[i].bit) && !get(registers[i].code, &p->registers[i])) return false;
     for (int i = 0; i < QUANTITIES; i++)
-        if (!get((uint8_t)quantities[i].number, &p->quantities[i])) return false;
+        if (!get(quantities[i].code, &p->quantities[i])) return false;
     return true;
 }
 
-static void print_value(const name *quantity, uint16_t word) { printf("  %s %04" PRIX16 "h", quantity->text, word); }
+/* VOUT words have a format of their own (5.2); the others are Linear11. */
+static void print_value(const struct quantity *q, uint16_t word) {
+    const bool vout = q->code == TONGSORREL_CODE_READ_VOUT;
+    const int64_t value = vout ? tongsorrel_host_vout_to_thousandths(word) : tongsorrel_host_to_thousandths(word);
+    const uint64_t size = (uint64_t)(value < 0 ? -value : value);
+    printf("  %s %s%" PRIu64 ".%03" PRIu64 " %s", q->label, value < 0 ? "-" : "", size / 1000, size % 1000, q->unit);
+}
 
 static void report(host *h, uint8_t page) {
     page_reading p = {0};

@@ -57,6 +57,7 @@ enum {
     TONGSORREL_WRONG_COUNT_BYTE = 22,
     TONGSORREL_ACCUMULATOR_TOO_LARGE = 23,
     TONGSORREL_TOTAL_FULL = 24,
+    TONGSORREL_OUT_OF_RANGE = 25,
     TONGSORREL_NO_ROOM = 26,
 };
 
@@ -457,6 +458,30 @@ tongsorrel_reply tongsorrel_host_reply(uint8_t code, bool check, const uint8_t *
 tongsorrel_totalizer tongsorrel_host_totalizer_fresh(void);
 tongsorrel_taken tongsorrel_host_totalizer_take(tongsorrel_totalizer totalizer, uint8_t code, const uint8_t *reply, size_t length);
 
+/* ---- numbers for limits: libhost.a */
+
+/* Counts of thousandths as words, and back (section 19): milliamperes, millivolts, thousandths of a degree. There are two formats (5.1):
+ * Linear11 for IOUT, VIN and temperature, and unsigned words in units of 2^-13 V for VOUT_COMMAND, READ_VOUT and the limits of VOUT. */
+
+/* Under an answer other than 0 the word is 0000h. */
+typedef struct tongsorrel_converted {
+    uint8_t answer;
+    uint16_t word;
+} tongsorrel_converted;
+
+/* The Linear11 word nearest to the count (19.1); of words equally near that with the smallest exponent, and then the smaller value (19.2).
+ * Answers 0, and 25 outside of -33,554,432,000 to 33,521,664,000, which 7C00h and 7BFFh mean (19.3). */
+tongsorrel_converted tongsorrel_host_from_thousandths(int64_t count);
+
+/* The value of a Linear11 word in thousandths, rounded, half away from zero (19.4). */
+int64_t tongsorrel_host_to_thousandths(uint16_t word);
+
+/* The VOUT word nearest to the count; two are never equally near. Answers 0, and 25 below 0 and above 7,999 (19.5). */
+tongsorrel_converted tongsorrel_host_vout_from_thousandths(int64_t count);
+
+/* The value of a VOUT word in thousandths, rounded, half up. From a count and back is that count (19.6). */
+int64_t tongsorrel_host_vout_to_thousandths(uint16_t word);
+
 #ifdef __cplusplus
 }
 #endif
@@ -519,6 +544,9 @@ TONGSORREL_AT(tongsorrel_reply, answer, 0);
 TONGSORREL_AT(tongsorrel_reply, byte, 1);
 TONGSORREL_AT(tongsorrel_reply, word, 2);
 TONGSORREL_AT(tongsorrel_reply, account, 4);
+TONGSORREL_SIZE(tongsorrel_converted, 4);
+TONGSORREL_AT(tongsorrel_converted, answer, 0);
+TONGSORREL_AT(tongsorrel_converted, word, 2);
 
 #undef TONGSORREL_AT
 #undef TONGSORREL_SIZE

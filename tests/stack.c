@@ -183,6 +183,21 @@ static tongsorrel_taken no_host_take(tongsorrel_totalizer t, uint8_t c, const ui
     return (tongsorrel_taken){t, 0};
 }
 
+/* The host's conversions. */
+static tongsorrel_converted converted;
+static int64_t thousandths;
+
+static tongsorrel_converted no_from(int64_t c) {
+    (void)c;
+    NOTE();
+    return converted;
+}
+
+static int64_t no_to(uint16_t w) {
+    NOTE();
+    return w;
+}
+
 static tongsorrel_device no_power_on(void) {
     NOTE();
     return device;
@@ -201,6 +216,8 @@ static tongsorrel_device (*volatile power_on_call)(void);
 static tongsorrel_built (*volatile host_write_call)(uint8_t *, size_t, size_t, uint8_t, const uint8_t *, size_t, bool);
 static tongsorrel_built (*volatile host_read_call)(uint8_t *, size_t, size_t, uint8_t, bool);
 static tongsorrel_reply (*volatile host_reply_call)(uint8_t, bool, const uint8_t *, size_t);
+static tongsorrel_converted (*volatile from_call)(int64_t);
+static int64_t (*volatile to_call)(uint16_t);
 static tongsorrel_taken (*volatile host_take_call)(tongsorrel_totalizer, uint8_t, const uint8_t *, size_t);
 
 static tongsorrel_outcome (*volatile lent_power_on_call)(tongsorrel_page *, size_t);
@@ -244,6 +261,8 @@ static void run_power_on(void) { device = power_on_call(); }
 static void run_host_write(void) { built = host_write_call(buffer, sizeof buffer, 0, number, bytes, length, check); }
 static void run_host_read(void) { built = host_read_call(buffer, sizeof buffer, 0, number, check); }
 static void run_host_reply(void) { fields = host_reply_call(number, check, reply, n); }
+static void run_from(void) { converted = from_call(thousandths); }
+static void run_to(void) { thousandths = to_call(word); }
 static void run_host_take(void) { taken = host_take_call(totalizer, TONGSORREL_CODE_READ_EIN, bytes, length); }
 
 static void on_stack(void (*run)(void)) {
@@ -440,6 +459,23 @@ static void host(void) {
     report("tongsorrel_host_write, read, reply");
 }
 
+/* Words of both formats, their values, and the outermost counts. */
+static void conversions(void) {
+    for (int value = 0; value < 65536; value += 97) {
+        word = (uint16_t)value;
+        DEPTH(to_call, no_to, tongsorrel_host_to_thousandths, run_to);
+        DEPTH(from_call, no_from, tongsorrel_host_from_thousandths, run_from);
+        DEPTH(to_call, no_to, tongsorrel_host_vout_to_thousandths, run_to);
+        DEPTH(from_call, no_from, tongsorrel_host_vout_from_thousandths, run_from);
+    }
+    for (int top = 0; top < 2; top++) {
+        thousandths = top ? INT64_MAX : INT64_MIN;
+        DEPTH(from_call, no_from, tongsorrel_host_from_thousandths, run_from);
+        DEPTH(from_call, no_from, tongsorrel_host_vout_from_thousandths, run_from);
+    }
+    report("tongsorrel_host_from_thousandths, to, vout");
+}
+
 int main(void) {
     tongsorrel_device states[STATES] = {tongsorrel_power_on(), busy(), busy(), busy()};
     states[2].unpaged.protect = 0x01;
@@ -510,6 +546,7 @@ int main(void) {
         }
     report("tongsorrel_totalizer_take, host_totalizer_take");
     host();
+    conversions();
     printf("  C: a call takes at most %zu bytes of stack (%d said)\n", most, TONGSORREL_STACK);
     return most > TONGSORREL_STACK;
 }

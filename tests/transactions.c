@@ -1,6 +1,6 @@
 /* The host's transactions from C, held against the device: every code, number of data, place and size of the buffer, with PEC and without.
  * What is built the device takes, and what it replies comes back in its field; a refusal, and a frame beside its place, leaves the buffer
- * as it was. */
+ * as it was. Then numbers for limits, forth and back. */
 #include "tongsorrel.h"
 
 #include <stdio.h>
@@ -12,7 +12,7 @@ static int failures;
 
 static void expect(bool holds, const char *what, int code) {
     if (!holds) {
-        printf("  C: FAILED for code %02X: %s\n", code, what);
+        printf("  C: FAILED for %02X: %s\n", code, what);
         failures++;
     }
 }
@@ -118,6 +118,61 @@ static void accounts(void) {
     expect(one.energy == 3 && one.samples == 1 && two.energy == 3 && two.samples == 1, "the totals", EIN);
 }
 
+/* ---- numbers for limits */
+
+/* Worked by hand: powers of two, both kinds of tie, the ends, and beyond. */
+static void nearest(void) {
+    static const struct row {
+        int64_t count;
+        uint16_t word;
+        uint8_t answer;
+    } rows[] = {
+        {8000, 0xD200, TONGSORREL_DONE},
+        {10000, 0xD280, TONGSORREL_DONE},
+        {-40000, 0xE580, TONGSORREL_DONE},
+        {-500, 0xAC00, TONGSORREL_DONE},
+        {0, 0x8000, TONGSORREL_DONE},
+        {1, 0x8042, TONGSORREL_DONE},
+        {1023400, 0x03FF, TONGSORREL_DONE},
+        {1023500, 0x03FF, TONGSORREL_DONE}, /* as near to 1024, which has a larger exponent */
+        {1025000, 0x0A00, TONGSORREL_DONE}, /* as near to 1026 */
+        {-1025000, 0x0400, TONGSORREL_DONE},
+        {-1027000, 0x0DFE, TONGSORREL_DONE},
+        {33521664000, 0x7BFF, TONGSORREL_DONE},
+        {33521664001, 0, TONGSORREL_OUT_OF_RANGE},
+        {-33554432000, 0x7C00, TONGSORREL_DONE},
+        {-33554432001, 0, TONGSORREL_OUT_OF_RANGE},
+        {INT64_MAX, 0, TONGSORREL_OUT_OF_RANGE},
+        {INT64_MIN, 0, TONGSORREL_OUT_OF_RANGE},
+    };
+    for (size_t i = 0; i < sizeof rows / sizeof rows[0]; i++) {
+        const tongsorrel_converted c = tongsorrel_host_from_thousandths(rows[i].count);
+        expect(c.answer == rows[i].answer && c.word == rows[i].word, "a number's word", (int)i);
+    }
+}
+
+/* The whole number nearest to thousands of a / b, half away from zero. */
+static int64_t rounded(int64_t a, int64_t b) {
+    const int64_t size = ((a < 0 ? -a : a) * 1000 * 2 + b) / (2 * b);
+    return a < 0 ? -size : size;
+}
+
+/* Every word of both formats back to a number, and every number of VOUT forth. */
+static void back(void) {
+    for (int word = 0; word < 65536; word++) {
+        const int64_t scaled = tongsorrel_linear11_scaled((uint16_t)word);
+        expect(tongsorrel_host_to_thousandths((uint16_t)word) == rounded(scaled, 65536), "a Linear11 word back", word);
+        expect(tongsorrel_host_vout_to_thousandths((uint16_t)word) == rounded(word, 8192), "a VOUT word back", word);
+    }
+    for (int64_t count = -3; count < 8003; count++) {
+        const tongsorrel_converted c = tongsorrel_host_vout_from_thousandths(count);
+        const bool inside = count >= 0 && count <= 7999;
+        expect(c.answer == (inside ? TONGSORREL_DONE : TONGSORREL_OUT_OF_RANGE), "whether VOUT has a word", (int)count);
+        expect(c.word == (inside ? (count * 8192 + 500) / 1000 : 0), "the VOUT word", (int)count);
+        if (inside) expect(tongsorrel_host_vout_to_thousandths(c.word) == count, "forth and back", (int)count);
+    }
+}
+
 int main(void) {
     tongsorrel_device device = tongsorrel_sample(tongsorrel_power_on(), 1000).device;
     for (uint8_t quantity = 0; quantity < TONGSORREL_QUANTITIES; quantity++)
@@ -131,6 +186,8 @@ int main(void) {
     uint8_t byte = UNTOUCHED;
     expect(tongsorrel_host_read(&byte, 1, SIZE_MAX, TONGSORREL_CODE_PAGE, true).answer == TONGSORREL_NO_ROOM && byte == UNTOUCHED,
            "a place whose sum with the length wraps", TONGSORREL_CODE_PAGE);
-    if (failures == 0) printf("  C: the transactions of every code hold through tongsorrel.h, and the device takes them\n");
+    nearest();
+    back();
+    if (failures == 0) printf("  C: the transactions of every code hold through tongsorrel.h, the device takes them; numbers convert\n");
     return failures != 0;
 }

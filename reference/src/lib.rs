@@ -16,4 +16,5 @@ pub mod page;
 pub mod pec;
 pub mod random;
 pub mod stream;
+pub mod thousandths;
 pub mod totalizer;

@@ -96,8 +96,16 @@ pub struct Reply {
     pub account: Account,
 }
 
+/// A word made of thousandths; 0000h under a refusal.
+#[repr(C)]
+#[derive(Clone, Copy, Debug, PartialEq, Eq)]
+pub struct Converted {
+    pub answer: u8,
+    pub word: u16,
+}
+
 mod archive {
-    use super::{Built, Device, Done, Outcome, Page, Reply, Taken, Totalizer, Unpaged};
+    use super::{Built, Converted, Device, Done, Outcome, Page, Reply, Taken, Totalizer, Unpaged};
 
     extern "C" {
         pub fn tongsorrel_pec(bytes: *const u8, length: usize) -> u8;
@@ -212,6 +220,10 @@ mod archive {
             reply: *const u8,
             length: usize,
         ) -> Taken;
+        pub fn tongsorrel_host_from_thousandths(count: i64) -> Converted;
+        pub fn tongsorrel_host_to_thousandths(word: u16) -> i64;
+        pub fn tongsorrel_host_vout_from_thousandths(count: i64) -> Converted;
+        pub fn tongsorrel_host_vout_to_thousandths(word: u16) -> i64;
     }
 }
 
@@ -407,9 +419,9 @@ pub fn totalizer_take(t: Totalizer, reply: &[u8]) -> Taken {
     unsafe { archive::tongsorrel_totalizer_take(t, reply.as_ptr(), reply.len()) }
 }
 
-/// The host's side of the bus: frames, replies, and the totalizer by code.
+/// The host's side of the bus: frames, replies, the totalizer by code, and words from thousandths.
 pub mod host {
-    use super::{archive, Built, Reply, Taken, Totalizer};
+    use super::{archive, Built, Converted, Reply, Taken, Totalizer};
 
     pub fn write(buffer: &mut [u8], place: usize, code: u8, data: &[u8], check: bool) -> Built {
         let (bytes, size) = (buffer.as_mut_ptr(), buffer.len());
@@ -432,5 +444,21 @@ pub mod host {
 
     pub fn totalizer_take(t: Totalizer, code: u8, reply: &[u8]) -> Taken {
         unsafe { archive::tongsorrel_host_totalizer_take(t, code, reply.as_ptr(), reply.len()) }
+    }
+
+    pub fn from_thousandths(count: i64) -> Converted {
+        unsafe { archive::tongsorrel_host_from_thousandths(count) }
+    }
+
+    pub fn to_thousandths(word: u16) -> i64 {
+        unsafe { archive::tongsorrel_host_to_thousandths(word) }
+    }
+
+    pub fn vout_from_thousandths(count: i64) -> Converted {
+        unsafe { archive::tongsorrel_host_vout_from_thousandths(count) }
+    }
+
+    pub fn vout_to_thousandths(word: u16) -> i64 {
+        unsafe { archive::tongsorrel_host_vout_to_thousandths(word) }
     }
 }

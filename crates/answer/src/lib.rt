@@ -48,5 +48,8 @@ pub const ACCUMULATOR_TOO_LARGE: u8 = 23;
 
 pub const TOTAL_FULL: u8 = 24;
 
+// The host's conversions: no Linear11 word stands for such a number.
+pub const OUT_OF_RANGE: u8 = 25;
+
 // The host's transactions: the frame does not fit behind the place.
 pub const NO_ROOM: u8 = 26;

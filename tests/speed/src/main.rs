@@ -8,6 +8,7 @@ mod lent;
 mod race;
 mod routines;
 mod stream;
+mod thousandths;
 
 fn main() {
     println!("Best / median of {} batches.\n", race::REPETITIONS);
@@ -40,6 +41,8 @@ fn main() {
 
     println!();
     host::tables();
+    println!();
+    thousandths::table();
 
     let arguments: Vec<String> = std::env::args().skip(1).collect();
     if let [bench, reference, file] = &arguments[..] {

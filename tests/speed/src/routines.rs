@@ -1,6 +1,6 @@
 //! The straightforward Rust routines: the second program's methods behind the library's signatures, the state by value in and
-//! back, and the same by `&mut`; and, written for this comparison, the steps of a streaming device and the host's frames and replies. None
-//! is inlined into the loop that times it, as the library's functions are not.
+//! back, and the same by `&mut`; and, written for this comparison, the steps of a streaming device, the host's frames and replies, and
+//! words from thousandths. None is inlined into the loop that times it, as the library's functions are not.
 
 use reference::device::Device;
 use reference::pec;
@@ -470,5 +470,63 @@ pub mod host {
             word,
             account,
         }
+    }
+}
+
+/// Linear11 words from thousandths and back, by the row of the count and one division.
+pub mod thousandths {
+    use conformance::library::Converted;
+
+    const LOWEST: i64 = -33_554_432_000;
+    const HIGHEST: i64 = 33_521_664_000;
+    /// The counts that belong to the first row, exponent -16, times 16,384: up to 1023.5 and down to -1025 units.
+    const FIRST_ROW_UP: u64 = 255_875;
+    const FIRST_ROW_DOWN: u64 = 256_250;
+    /// The bits of both.
+    const FIRST_ROW_BITS: u32 = 18;
+
+    #[inline(never)]
+    pub fn from_thousandths(count: i64) -> Converted {
+        if !(LOWEST..=HIGHEST).contains(&count) {
+            return Converted {
+                answer: 25,
+                word: 0,
+            };
+        }
+        let negative = count < 0;
+        // 65,536 / 1000 is 16,384 / 250: in the first row a unit is 250 of these.
+        let size = count.unsigned_abs() * 16_384;
+        let most = if negative {
+            FIRST_ROW_DOWN
+        } else {
+            FIRST_ROW_UP
+        };
+        let row = (64 - size.leading_zeros()).saturating_sub(FIRST_ROW_BITS);
+        let row = row + u32::from(size > most << row);
+        // Rounded to the nearest, half-way to the smaller value.
+        let half = (125 << row) - u64::from(!negative);
+        let units = ((size + half) >> row) / 250;
+        let mantissa = if negative {
+            0x800 - units.min(1024)
+        } else {
+            units
+        };
+        Converted {
+            answer: 0,
+            word: ((row as u16 + 16) & 0x1F) << 11 | mantissa as u16 & 0x7FF,
+        }
+    }
+
+    #[inline(never)]
+    pub fn to_thousandths(word: u16) -> i64 {
+        let exponent = word as i16 >> 11;
+        let mantissa = i64::from((word << 5) as i16 >> 5);
+        let size = 1000 * mantissa.abs();
+        let size = if exponent < 0 {
+            (size + (1 << (-exponent - 1))) >> -exponent
+        } else {
+            size << exponent
+        };
+        size * mantissa.signum()
     }
 }

@@ -1,0 +1,10 @@
+pub mod Rounding
+pub mod Search
+pub mod Raised
+pub mod Places
+pub mod Words
+pub mod Sizes
+pub mod Ends
+pub mod Back
+pub mod Units
+pub mod Claims

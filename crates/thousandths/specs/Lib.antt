@@ -1,0 +1,5 @@
+pub mod Conversion
+pub mod Vout
+pub mod Nearest
+pub mod Claims
+pub mod Examples
