@@ -54,6 +54,8 @@ size_t board_send(const uint8_t *reply, size_t length) {
     return clocked;
 }
 
+void board_record(board_entry entry) { printf("recorded: %s\n", entry == BOARD_DAMAGED ? "memory damaged" : "power-on"); }
+
 void board_smbalert(bool asserted) {
     if (asserted != smbalert) printf("    SMBALERT# %s\n", asserted ? "asserted" : "released");
     smbalert = asserted;

@@ -13,6 +13,7 @@ typedef enum board_kind {
     BOARD_MEASUREMENT,    /* a converter has a word of a quantity on a page */
     BOARD_SAMPLE,         /* the power meter has a sample, in word */
     BOARD_TICK,           /* a unit of delay has passed */
+    BOARD_POWER_ON,       /* somebody at the shelf asks for a power-on of the device */
 } board_kind;
 
 typedef struct board_event {
@@ -31,5 +32,12 @@ size_t board_send(const uint8_t *reply, size_t length);
 
 void board_smbalert(bool asserted);
 void board_switch(uint8_t page, bool on);
+
+/* Into a log that outlasts a reset, with the time, for whoever audits the totals. */
+typedef enum board_entry {
+    BOARD_POWERED_ON,
+    BOARD_DAMAGED, /* the device's memory was damaged: everything is off */
+} board_entry;
+void board_record(board_entry entry);
 
 #endif

@@ -63,6 +63,8 @@ void board_switch(uint8_t page, bool keep) {
     on[page] = keep;
 }
 
+void board_record(board_entry entry) { printf("%s\n", entry == BOARD_DAMAGED ? "    recorded: memory damaged" : "recorded: power-on"); }
+
 static bus_event event_of(char sign) {
     switch (sign) {
     case 'S': return BUS_START;

@@ -27,6 +27,14 @@ extern "C" {
 
 #define TONGSORREL_STACK 2048
 
+/* The version, and the number of the layout of all structs and of the state buffer. The number stands in the names of three functions, one of
+ * each archive: a program that calls the one of its archive, as the examples do, does not link with an archive of another layout. */
+#define TONGSORREL_VERSION "0.9"
+#define TONGSORREL_LAYOUT 1
+uint32_t tongsorrel_layout_1(void);
+uint32_t tongsorrel_lent_layout_1(void);
+uint32_t tongsorrel_host_layout_1(void);
+
 /* ---- names */
 
 /* The address bytes (2.1). */

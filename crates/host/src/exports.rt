@@ -64,3 +64,12 @@ pub extern "C" fn tongsorrel_host_totalizer_take(t: Totalizer, code: u8, reply: 
 {
     totalizer::take(t, code, reply)
 }
+
+// The layout of `Built`, `Reply`, `Totalizer`, `Taken` and `Converted` has a number, which stands in this name: a program made for another does
+// not link.
+#[no_mangle]
+pub extern "C" fn tongsorrel_host_layout_1() -> u32
+    ensures { λ r. ⌜ r ≡ 1 ⌝ }
+{
+    1
+}

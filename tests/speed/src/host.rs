@@ -1,7 +1,8 @@
 //! The host's frames and replies: the library beside Rust on slices.
 
 use crate::race::{print_head, print_row, race, Candidate};
-use crate::routines;
+use crate::routines::host as routines;
+use crate::routines::host::{Match, Table};
 use conformance::library::{host, Built, Reply};
 use conformance::random::Random;
 use reference::pec;
@@ -30,17 +31,24 @@ fn building<'a>(
 fn frames(
     name: &str,
     mut ours: impl FnMut(&mut [u8], usize) -> Built,
-    mut theirs: impl FnMut(&mut [u8], usize) -> Built,
+    mut table: impl FnMut(&mut [u8], usize) -> Built,
+    mut by_match: impl FnMut(&mut [u8], usize) -> Built,
 ) {
-    let mut buffers = [[0x55; BUFFER]; 2];
-    let [first, second] = &mut buffers;
+    let mut buffers = [[0x55; BUFFER]; 3];
+    let [first, second, third] = &mut buffers;
     for input in 0..INPUTS {
         let built = ours(first, input);
         assert_eq!(built.answer, 0, "{name}");
-        assert_eq!(built, theirs(second, input), "{name}");
+        assert_eq!(built, table(second, input), "{name}");
+        assert_eq!(built, by_match(third, input), "{name}");
         assert_eq!(first, second, "{name}");
+        assert_eq!(first, third, "{name}");
     }
-    let mut candidates = [building(first, ours), building(second, theirs)];
+    let mut candidates = [
+        building(first, ours),
+        building(second, table),
+        building(third, by_match),
+    ];
     print_row(name, &race(CALLS, &mut candidates));
 }
 
@@ -52,11 +60,13 @@ fn write(name: &str, check: bool) {
     let words: Vec<[u8; 2]> = (0..INPUTS).map(|_| random.u16().to_le_bytes()).collect();
     let code = |input: usize| LIMITS[input % LIMITS.len()];
     let (place, check) = black_box((PLACE, check));
-    let theirs = black_box(routines::host::write as Write);
+    let table = black_box(routines::write::<Table> as Write);
+    let by_match = black_box(routines::write::<Match> as Write);
     frames(
         name,
         |buffer, input| host::write(buffer, place, code(input), &words[input], check),
-        |buffer, input| theirs(buffer, place, code(input), &words[input], check),
+        |buffer, input| table(buffer, place, code(input), &words[input], check),
+        |buffer, input| by_match(buffer, place, code(input), &words[input], check),
     );
 }
 
@@ -66,11 +76,13 @@ fn read(name: &str) {
     type Read = fn(&mut [u8], usize, u8, bool) -> Built;
     let code = |input: usize| CODES[input % CODES.len()];
     let (place, check) = black_box((PLACE, true));
-    let theirs = black_box(routines::host::read as Read);
+    let table = black_box(routines::read::<Table> as Read);
+    let by_match = black_box(routines::read::<Match> as Read);
     frames(
         name,
         |buffer, input| host::read(buffer, place, code(input), check),
-        |buffer, input| theirs(buffer, place, code(input), check),
+        |buffer, input| table(buffer, place, code(input), check),
+        |buffer, input| by_match(buffer, place, code(input), check),
     );
 }
 
@@ -91,10 +103,12 @@ fn reply(name: &str, code: u8, data: usize, check: bool) {
         })
         .collect();
     let (code, check) = black_box((code, check));
-    let theirs = black_box(routines::host::reply as Read);
+    let table = black_box(routines::reply::<Table> as Read);
+    let by_match = black_box(routines::reply::<Match> as Read);
     for input in &inputs {
-        let due = theirs(code, check, input);
+        let due = table(code, check, input);
         assert_eq!(due.answer, 0, "{name}");
+        assert_eq!(by_match(code, check, input), due, "{name}");
         assert_eq!(host::reply(code, check, input), due, "{name}");
     }
     let mut candidates = [
@@ -105,7 +119,12 @@ fn reply(name: &str, code: u8, data: usize, check: bool) {
         })),
         Candidate(Box::new(|| {
             for call in 0..CALLS {
-                black_box(theirs(code, check, &inputs[call % INPUTS]));
+                black_box(table(code, check, &inputs[call % INPUTS]));
+            }
+        })),
+        Candidate(Box::new(|| {
+            for call in 0..CALLS {
+                black_box(by_match(code, check, &inputs[call % INPUTS]));
             }
         })),
     ];
@@ -113,7 +132,7 @@ fn reply(name: &str, code: u8, data: usize, check: bool) {
 }
 
 pub fn tables() {
-    print_head(&["Rust on slices"]);
+    print_head(&["Rust on slices, table", "Rust on slices, `match`"]);
     write("write of a limit with PEC, built", true);
     write("the same without PEC", false);
     read("header of a read, built");

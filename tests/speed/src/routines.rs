@@ -346,10 +346,11 @@ pub mod plain {
     }
 }
 
-/// The host's frames and replies on slices: the table as a match, the PEC by look-ups, nothing allocated.
+/// The host's frames and replies on slices, the PEC by look-ups, nothing allocated; the codes by a table, or by a match.
 pub mod host {
     use super::by_table;
     use conformance::library::{Account, Built, Reply};
+    use reference::command;
 
     const NOTHING: Account = Account {
         accumulator: 0,
@@ -357,24 +358,51 @@ pub mod host {
         count: 0,
     };
 
-    /// Data bytes of a code that may be written.
-    fn written(code: u8) -> Option<usize> {
-        match code {
-            0x03 => Some(0),
-            0x00 | 0x01 | 0x10 | 0x41 | 0x47 | 0x50 | 0x54 | 0x56 | 0x5A | 0x7A..=0x7E => Some(1),
-            0x21 | 0x40 | 0x42 | 0x46 | 0x4A | 0x4F | 0x51 | 0x53 | 0x55 | 0x57..=0x59 => Some(2),
-            _ => None,
+    /// Data bytes of a code that may be written, and of one that may be read.
+    pub trait Codes {
+        fn written(code: u8) -> Option<usize>;
+        fn readable(code: u8) -> Option<usize>;
+    }
+
+    /// The second program's table, row after row.
+    pub struct Table;
+
+    impl Codes for Table {
+        fn written(code: u8) -> Option<usize> {
+            let command = command::lookup(code)?;
+            command.written().then_some(command.data)
+        }
+
+        fn readable(code: u8) -> Option<usize> {
+            let command = command::lookup(code)?;
+            command.read().then_some(command.data)
         }
     }
 
-    /// Data bytes of a code that may be read.
-    fn readable(code: u8) -> Option<usize> {
-        match code {
-            0x03 => None,
-            0x19 | 0x20 | 0x78 | 0x98 => Some(1),
-            0x79 | 0x88 | 0x8B..=0x8D => Some(2),
-            0x86 => Some(7),
-            _ => written(code),
+    pub struct Match;
+
+    impl Codes for Match {
+        fn written(code: u8) -> Option<usize> {
+            match code {
+                0x03 => Some(0),
+                0x00 | 0x01 | 0x10 | 0x41 | 0x47 | 0x50 | 0x54 | 0x56 | 0x5A | 0x7A..=0x7E => {
+                    Some(1)
+                }
+                0x21 | 0x40 | 0x42 | 0x46 | 0x4A | 0x4F | 0x51 | 0x53 | 0x55 | 0x57..=0x59 => {
+                    Some(2)
+                }
+                _ => None,
+            }
+        }
+
+        fn readable(code: u8) -> Option<usize> {
+            match code {
+                0x03 => None,
+                0x19 | 0x20 | 0x78 | 0x98 => Some(1),
+                0x79 | 0x88 | 0x8B..=0x8D => Some(2),
+                0x86 => Some(7),
+                _ => Self::written(code),
+            }
         }
     }
 
@@ -391,8 +419,14 @@ pub mod host {
     }
 
     #[inline(never)]
-    pub fn write(buffer: &mut [u8], place: usize, code: u8, data: &[u8], check: bool) -> Built {
-        let Some(due) = written(code) else {
+    pub fn write<C: Codes>(
+        buffer: &mut [u8],
+        place: usize,
+        code: u8,
+        data: &[u8],
+        check: bool,
+    ) -> Built {
+        let Some(due) = C::written(code) else {
             return refused(3);
         };
         if data.len() != due {
@@ -416,8 +450,8 @@ pub mod host {
     }
 
     #[inline(never)]
-    pub fn read(buffer: &mut [u8], place: usize, code: u8, check: bool) -> Built {
-        let Some(data) = readable(code) else {
+    pub fn read<C: Codes>(buffer: &mut [u8], place: usize, code: u8, check: bool) -> Built {
+        let Some(data) = C::readable(code) else {
             return refused(3);
         };
         let header = [0xC0, code, 0xC1];
@@ -433,8 +467,8 @@ pub mod host {
     }
 
     /// The byte, word or account of a reply, or the refusal.
-    fn fields(code: u8, check: bool, bytes: &[u8]) -> Result<(u8, u16, Account), u8> {
-        let number = readable(code).ok_or(3)?;
+    fn fields<C: Codes>(code: u8, check: bool, bytes: &[u8]) -> Result<(u8, u16, Account), u8> {
+        let number = C::readable(code).ok_or(3)?;
         if bytes.len() != number + usize::from(check) {
             return Err(20);
         }
@@ -459,8 +493,8 @@ pub mod host {
     }
 
     #[inline(never)]
-    pub fn reply(code: u8, check: bool, bytes: &[u8]) -> Reply {
-        let (answer, (byte, word, account)) = match fields(code, check, bytes) {
+    pub fn reply<C: Codes>(code: u8, check: bool, bytes: &[u8]) -> Reply {
+        let (answer, (byte, word, account)) = match fields::<C>(code, check, bytes) {
             Ok(fields) => (0, fields),
             Err(answer) => (answer, (0, 0, NOTHING)),
         };
