@@ -1,7 +1,7 @@
 -- From one rest to the next: the times that a machine can still let its page on never rise, and fall by one each time that it does.
 -- Assumes nothing.
 use Prim.Native.Nat.{ℕ, suc, _-_, _≤_}
-use mathlib.Core.Path.{_≡_, refl, sym}
+use mathlib.Core.Path.{_≡_, sym}
 use mathlib.Core.Logic.{⊎-elim}
 use mathlib.Core.Bool.{Bool, true, false, cond, not, _&&_, and-eq-true-iff, false≢true}
 use mathlib.Core.List.{List, [], _∷_}
@@ -83,7 +83,10 @@ module _ (r : ℕ) where
     unfolding budget Shape atTick
     tick-spends c rest f go x h = call-spends c rest x h
     tick-spends c (waiting t) f go x h =
-        either (ltb 1 t) (λ e. rw e at h) (λ e. let l = rw e at h in let g = rw e at go in let b = budget-look c (retries r) g in omega arith)
+        either (ltb 1 t) (λ e. rw e at h)
+        (λ e. let l = rw e at h in
+        let b = budget-look c (retries r) (rw e at go) in
+        omega arith)
     tick-spends c (held n t) f go x h =
         let some = f .1 in
         either (ltb 1 t) (λ e. rw e (rw e at h)) (λ e. let l = rw e at h in rw e (omega arith))

@@ -2,6 +2,7 @@
 -- Assumes nothing.
 use Rattle.retry.specs.Claims.{RetryClaims}
 use Rattle.retry.proofs.Alone.{each-alone}
+use Rattle.retry.proofs.Alike.{zero-as-one}
 use Rattle.retry.proofs.AtMost.{at-most}
 use Rattle.retry.proofs.Claim.{lets-on, lets-on-at, trips-at, latest}
 use Rattle.retry.proofs.Looks.{gone, all-tries, no-machine, blind, looks}
@@ -17,6 +18,7 @@ retry-claims =
       trips-at = trips-at;
       latest = latest;
       at-most = at-most;
+      zero-as-one = zero-as-one;
       for-ever = for-ever;
       no-retry = no-retry;
       stays-tripped = stays-tripped;

@@ -9,4 +9,5 @@ pub mod Side
 pub mod Table
 pub mod Looks
 pub mod AtMost
+pub mod Alike
 pub mod Claims

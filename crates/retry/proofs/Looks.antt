@@ -1,15 +1,15 @@
 -- When a machine looks at its cause, and what it makes of what it finds: by cases of the machine.
 -- Assumes nothing.
-use Prim.Native.Nat.{ℕ, _+_, _*_, _/_, _%_, _≤_, _<_}
+use Prim.Native.Nat.{ℕ, _+_, _*_, _%_, _≤_, _<_}
 use mathlib.Core.Path.{_≡_, refl, sym, _∙_}
 use mathlib.Core.Logic.{_⊎_, ⊎-elim}
 use mathlib.Core.Bool.{Bool, true, false, not, false≢true}
 use mathlib.Core.List.{List, [], _∷_}
 use native.Mathlib.Omega.{arith}
-use lib.Dec.{eqb, leb, ltb}
+use lib.Dec.{eqb}
 use borrow.Author.Tests.{eq-eqb, ne-eqb, lt-ltb, le-ltb, leb-true, leb-false}
 use Rattle.laws.proofs.Branches.{either}
-use Rattle.retry.specs.Response.{action, waitsFirst, holdsAtOnce, retries, delay}
+use Rattle.retry.specs.Response.{action, retries, delay}
 use Rattle.retry.specs.Machine.{Machine, rest, waiting, held, trying, tripped, hold, look, started, atCall, atTick, atRest}
 use Rattle.retry.specs.Steps.{Step, tick, call, causePresent, after, run}
 use Rattle.retry.proofs.Course.{wait-on}

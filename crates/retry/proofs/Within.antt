@@ -78,7 +78,8 @@ module _ {S E : Type 0} (next : S → E → S) (byte : S → ℕ) (response : S 
   unfolding after Shape
   fits-next s e g f = rw (machine-moves s e g) (fit (met s e) (within .keeps s e g))
     where
-      fit : (x : Step) → (rests x ≡ false → response (next s e) ≡ response s) → Fits (response (next s e)) (after (response (next s e)) (machineOf (byte s)) x)
+      fit : (x : Step) → (rests x ≡ false → response (next s e) ≡ response s)
+          → Fits (response (next s e)) (after (response (next s e)) (machineOf (byte s)) x)
       fit (tick c) k = fits-after (response (next s e)) (machineOf (byte s)) (tick c) (rw (k refl) f)
       fit (call true c) k = fits-after (response (next s e)) rest (call true c) tt
       fit (call false c) k = fits-after (response (next s e)) (machineOf (byte s)) (call false c) (rw (k refl) f)
@@ -92,12 +93,15 @@ module _ {S E : Type 0} (next : S → E → S) (byte : S → ℕ) (response : S 
   fits-later s (e ∷ es) g f = fits-later (next s e) es (within .stays s e g) (fits-next s e g f)
 
   same-way : (r : ℕ) (s : S) (es : List E) → Good s → response s ≡ r → underWayIn next byte response met s es ≡ true
-      → (timesOnIn next byte response met s es ≡ timesOn r (machineOf (byte s)) (steps s es)) × (underWay r (machineOf (byte s)) (steps s es) ≡ true)
+      → (timesOnIn next byte response met s es ≡ timesOn r (machineOf (byte s)) (steps s es))
+      × (underWay r (machineOf (byte s)) (steps s es) ≡ true)
   unfolding stepsIn timesOnIn timesOn underWayIn underWay
   same-way r s [] g e h = (refl, refl)
   same-way r s (c ∷ cs) g e h =
-      let p = and-eq-true-iff (not (rests (met s c)) && not (atRest (machineOf (byte (next s c))))) (underWayIn next byte response met (next s c) cs) .0 h in
-      let q = and-eq-true-iff (not (rests (met s c))) (not (atRest (machineOf (byte (next s c))))) .0 (p .0) in
+      let a = not (rests (met s c)) in
+      let b = not (atRest (machineOf (byte (next s c)))) in
+      let p = and-eq-true-iff (a && b) (underWayIn next byte response met (next s c) cs) .0 h in
+      let q = and-eq-true-iff a b .0 (p .0) in
       let k = within .keeps s c g (not-true (rests (met s c)) (q .0)) ∙ e in
       let m = machine-moves s c g ∙ ap (λ (x : ℕ). after x (machineOf (byte s)) (met s c)) k in
       let i = same-way r (next s c) cs (within .stays s c g) k (p .1) in

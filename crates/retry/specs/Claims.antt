@@ -1,6 +1,6 @@
 -- Everything that is guaranteed of a machine, a line for each statement. proofs/Claims.antt proves the whole, so that none goes missing.
 -- Assumes nothing.
-use Rattle.retry.specs.Claim.{LetsOn, LetsOnAt, TripsAt, Latest, AtMost, ForEver, NoRetry, StaysTripped, UpToDate, StaysValid, ValidOccurs}
+use Rattle.retry.specs.Claim.{LetsOn, LetsOnAt, TripsAt, Latest, AtMost, ZeroAsOne, ForEver, NoRetry, StaysTripped, UpToDate, StaysValid, ValidOccurs}
 use Rattle.retry.specs.Looks.{Gone, AllTries, NoMachine, Blind, Looks}
 use Rattle.retry.specs.Machines.{EachAlone}
 use Rattle.retry.specs.Table.{Table}
@@ -18,6 +18,8 @@ pub record RetryClaims : Type 0 where
   -- ---- whatever the cause does (Claim.antt)
   -- from one rest to the next a machine lets its page on at most as many times as its retries say
   pub at-most : AtMost
+  -- delay 0 counts as 1
+  pub zero-as-one : ZeroAsOne
   -- with 7 retries it never trips its page
   pub for-ever : ForEver
   -- with none it never holds it off

@@ -1,5 +1,5 @@
--- When a machine looks at its cause, and what it makes of what it finds (data sheet 7.8, 7.10): said of each state in its own numbers. The byte of
--- k retries and delay d is 80h + 8 k + d with action 10, and 40h + 8 k + d with action 01.
+-- When a machine looks at its cause, and what it makes of what it finds (data sheet 7.8, 7.10): said of each state in its own numbers. The
+-- byte of k retries and delay d is 80h + 8 k + d with action 10, and 40h + 8 k + d with action 01.
 -- Assumes nothing.
 use Prim.Native.Nat.{ℕ, _+_, _*_, _≤_, _<_}
 use mathlib.Core.Path.{_≡_}
@@ -34,8 +34,8 @@ looksNext (held n t) = false
 looksNext (trying n) = true
 looksNext tripped = false
 
--- Between looks the cause changes nothing of a machine under way: a call that does not put it to rest leaves it as it is, and a tick that is no
--- look does the same to it with the cause present and gone.
+-- Between looks the cause changes nothing of a machine under way: a call that does not put it to rest leaves it as it is, and a tick that is
+-- no look does the same to it with the cause present and gone.
 unfoldable pub Blind : Type 0
 Blind =
     (response : ℕ) (m : Machine) → atRest m ≡ false

@@ -1,4 +1,4 @@
--- The ticks of some response bytes, worked out by hand (data sheet 3.6, 7.8, 7.10): what a machine is at its start and after each tick from there.
+-- The ticks of some response bytes, worked out by hand (data sheet 3.6, 7.8, 7.10): what a machine is at its start and after each tick.
 -- Assumes nothing.
 use Prim.Native.Nat.{ℕ}
 use mathlib.Core.Path.{_≡_}
