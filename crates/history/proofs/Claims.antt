@@ -2,6 +2,7 @@
 -- Assumes nothing.
 use Rattle.writes.proofs.Accepted.{accepted}
 use Rattle.device.proofs.Touches.{pages-stay}
+use Rattle.retry.proofs.Claims.{retry-claims}
 use Rattle.history.specs.Claims.{Claims}
 use Rattle.history.proofs.Alert.{alert-rises, alert-cleared, alert-answered}
 use Rattle.history.proofs.Cml.{latches-cml, falls-cml}
@@ -11,7 +12,8 @@ use Rattle.history.proofs.Latching.{latched, latches, falls}
 use Rattle.history.proofs.Outcomes.{refused-call, takes-effect}
 use Rattle.history.proofs.ReadBack.{stored-codes, written-back, write-then-read, measured-back}
 use Rattle.history.proofs.Refusals.{unchanged}
-use Rattle.history.proofs.Retry.{tick-quiet, stays-down, lets-on-again, lets-on-by-ticks}
+use Rattle.history.proofs.Retry.{tick-quiet, machine-moves, stays-down, lets-on-again, lets-on-by-ticks, trips-by-ticks, at-most}
+use Rattle.history.proofs.Occurs.{machine-occurs}
 use Rattle.history.proofs.Runs.{reached-whole}
 use Rattle.history.proofs.Tripping.{tripped, stays-tripped, trips}
 use Rattle.history.proofs.AlikePages.{supply-alike}
@@ -48,6 +50,11 @@ claims =
       stays-down = stays-down;
       lets-on-again = lets-on-again;
       lets-on-by-ticks = lets-on-by-ticks;
+      machine = retry-claims;
+      machine-moves = machine-moves;
+      trips-by-ticks = trips-by-ticks;
+      at-most = at-most;
+      machine-occurs = machine-occurs;
       stay-alike = stay-alike;
       reply-alike = reply-alike;
       warn-limits-aside = warn-limits-aside;

@@ -8,6 +8,7 @@ pub mod Latching
 pub mod AlikePages
 pub mod Tripping
 pub mod Retry
+pub mod Occurs
 pub mod Cml
 pub mod Valid
 pub mod Alert

@@ -3,13 +3,15 @@
 -- Assumes nothing.
 use Rattle.writes.specs.Accepted.{Accepted}
 use Rattle.device.specs.Touches.{PagesStay}
+use Rattle.retry.specs.Claims.{RetryClaims}
 use Rattle.history.specs.Valid.{Fifteen, ReachedWhole, ReachedValid, NoFifteen}
 use Rattle.history.specs.Refusals.{Refused, Unchanged}
 use Rattle.history.specs.Accepted.{TakesEffect}
 use Rattle.history.specs.Clearing.{Falls, FallsCml}
 use Rattle.history.specs.Latching.{Latched, Latches, LatchesCml}
 use Rattle.history.specs.Tripping.{Tripped, StaysTripped, Trips}
-use Rattle.history.specs.Retry.{TickQuiet, StaysDown, LetsOnAgain, LetsOnByTicks}
+use Rattle.history.specs.Retry.{TickQuiet, MachineMoves, StaysDown, LetsOnAgain, LetsOnByTicks, TripsByTicks, AtMost}
+use Rattle.history.specs.Occurs.{MachineOccurs}
 use Rattle.history.specs.Warnings.{StayAlike, ReplyAlike, WarnLimitsAside, SupplyAlike}
 use Rattle.history.specs.Alert.{AlertRises, AlertCleared, AlertAnswered}
 use Rattle.history.specs.Energy.{TotalsTrusted}
@@ -77,6 +79,16 @@ pub record Claims : Type 0 where
   pub lets-on-again : LetsOnAgain
   -- and with any retries at the very ticks
   pub lets-on-by-ticks : LetsOnByTicks
+  -- one machine by itself: looks at the cause, ticks, tries, values (`retry`'s Claims.antt)
+  pub machine : RetryClaims
+  -- each machine of a run after a call, in one equation
+  pub machine-moves : MachineMoves
+  -- while its cause lasts a machine with 6 retries or fewer trips its page at the tick of the look after the last try
+  pub trips-by-ticks : TripsByTicks
+  -- whatever the cause does, from one rest to the next it lets its page on at most as many times as its retries say
+  pub at-most : AtMost
+  -- each of the sixty-five values of a machine's byte occurs in a run, on every page (Occurs.antt)
+  pub machine-occurs : MachineOccurs
   -- ---- warnings (Warnings.antt; data sheet 6.15)
   -- devices that differ in warn limits, warnings' bits and the alert answer alike and stay so
   pub stay-alike : StayAlike

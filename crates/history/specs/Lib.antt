@@ -6,6 +6,7 @@ pub mod Latching
 pub mod Warnings
 pub mod Tripping
 pub mod Retry
+pub mod Occurs
 pub mod Alert
 pub mod Accepted
 pub mod Energy
