@@ -18,6 +18,8 @@ use Rattle.history.proofs.AlikePages.{supply-alike}
 use Rattle.history.proofs.Warnings.{stay-alike, warn-limits-aside}
 use Rattle.history.proofs.WarningReplies.{reply-alike}
 use Rattle.history.proofs.Valid.{fifteen, reached-valid, no-fifteen}
+use Rattle.history.proofs.Presence.{present-means}
+use Rattle.history.proofs.Supplies.{held-off, supplies-asked}
 
 pub claims : Claims
 claims =
@@ -56,4 +58,7 @@ claims =
       alert-cleared = alert-cleared;
       alert-answered = alert-answered;
       totals-trusted = totals-trusted;
+      present-means = present-means;
+      held-off = held-off;
+      supplies-asked = supplies-asked;
     }

@@ -17,7 +17,10 @@ pub mod Effects
 pub mod Warnings
 pub mod WarningReplies
 pub mod Fields
+pub mod Measured
 pub mod Stored
 pub mod StoredSteps
 pub mod ReadBack
+pub mod Presence
+pub mod Supplies
 pub mod Claims

@@ -15,6 +15,8 @@ use Rattle.history.specs.Alert.{AlertRises, AlertCleared, AlertAnswered}
 use Rattle.history.specs.Energy.{TotalsTrusted}
 use Rattle.history.specs.Effects.{Effects}
 use Rattle.history.specs.ReadBack.{StoredCodes, WrittenBack, WriteThenRead, MeasuredBack}
+use Rattle.history.specs.Presence.{PresentMeans}
+use Rattle.history.specs.Supplies.{HeldOff, SuppliesAsked}
 
 pub record Claims : Type 0 where
   -- ---- which states get answer 15 (Valid.antt; data sheet 12)
@@ -96,3 +98,10 @@ pub record Claims : Type 0 where
   -- ---- energy (Energy.antt; data sheet 10)
   -- the host's totals are those of the samples that the device took, whichever replies are lost, repeated or damaged
   pub totals-trusted : TotalsTrusted
+  -- ---- what is present and what supplies, a second time (Presence.antt, Supplies.antt; data sheet 6.2, 7.6)
+  -- a cause or warning is present exactly where the latest measurement lies strictly past the latest limit written, by exact value
+  pub present-means : PresentMeans
+  -- STATUS_BYTE bit 6 and STATUS_WORD bit 11 are read as 0 exactly where the page supplies
+  pub held-off : HeldOff
+  -- and the firmware that asks whether a page supplies is told the same
+  pub supplies-asked : SuppliesAsked

@@ -12,4 +12,6 @@ pub mod Energy
 pub mod EnergyExample
 pub mod Effects
 pub mod ReadBack
+pub mod Presence
+pub mod Supplies
 pub mod Claims
