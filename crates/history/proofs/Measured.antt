@@ -30,11 +30,11 @@ pub record WordField (q : ℕ) (A : Type 0) : Type 0 where
       → get (settled (setMeasurement p quantity word)) ≡ cond (eqb quantity q) (given word) (get p)
   pub tick-keeps : (p : Page) → get (ticked p) ≡ get p
 
-ticked-words : (p : Page) (q : ℕ) → (reading (ticked p) q ≡ reading p q) × (ticked p .measured ≡ p .measured)
+pub ticked-words : (p : Page) (q : ℕ) → (reading (ticked p) q ≡ reading p q) × (ticked p .measured ≡ p .measured)
 unfolding ticked moved reading
 ticked-words p q = (refl, refl)
 
-left-mark : (w : Write) (p : Page) → pageLeft w p .measured ≡ p .measured
+pub left-mark : (w : Write) (p : Page) → pageLeft w p .measured ≡ p .measured
 unfolding pageLeft changed cleared settled moved clearBits applied setOperation setVoutCommand setLimit setResponse
 left-mark Write.Nothing p = refl
 left-mark (Write.SelectPage x) p = refl
@@ -46,7 +46,7 @@ left-mark (Write.Change (Setting.Response k x)) p = refl
 left-mark (Write.Clear m) p = refl
 left-mark (Write.ClearCml m) p = refl
 
-measured-mark : (p : Page) → Sized p → (quantity word q : ℕ) → quantity < 4 → q < 4
+pub measured-mark : (p : Page) → Sized p → (quantity word q : ℕ) → quantity < 4 → q < 4
     → getD (settled (setMeasurement p quantity word) .measured) q false ≡ cond (eqb quantity q) true (getD (p .measured) q false)
 unfolding settled moved setMeasurement
 measured-mark p z quantity word q small few =

@@ -102,7 +102,7 @@ module _ (x : Choice) (cs : List Call) (i m : ℕ) (b : AllOnBus cs) (small : i 
   -- a quantity that was measured reads its latest word
   reads-word : getD (p .measured) q false ≡ true → reading p q ≡ getD (p .words) q 0
   unfolding reading
-  reads-word seen = let same : q % 4 ≡ q = omega arith in rw (same, seen)
+  reads-word seen = let same : q % 4 ≡ q = omega (arith, few) in rw (same, seen)
 
   word-now : getD (p .measured) q false ≡ true → getD (p .words) q 0 ≡ wordNow x cs i q
   word-now seen = sym (reads-word seen) ∙ measured-word x cs i small q few
