@@ -1,4 +1,5 @@
--- What a page keeps of a measured quantity: the latest word, and the mark that there is one. What a write, a measurement and a tick leave of them.
+-- What a page keeps of a measured quantity: the latest word, and the mark that there is one; and what a write, a measurement and a tick leave
+-- of them.
 -- Assumes nothing.
 use Prim.Native.Nat.{ℕ, _<_, _%_}
 use mathlib.Core.Path.{_≡_, refl, sym, ap}

@@ -94,7 +94,8 @@ module _ (x : Choice) (cs : List Call) (i m : ℕ) (b : AllOnBus cs) (small : i 
       sym (field-word m h p)
       ∙ ap dataWord
       (stored-page x cs i small (limitOf m .limitCode) (field m h) b
-      ∙ ap₂ (λ (code : ℕ) (start : List ℕ). latest (stores i code) writtenData (powerOn x) cs start) (code-at m h) (field-start m h (choiceAt x i)))
+      ∙ ap₂ (λ (code : ℕ) (start : List ℕ). latest (stores i code) writtenData (powerOn x) cs start) (code-at m h)
+      (field-start m h (choiceAt x i)))
 
   mark-now : getD (p .measured) q false ≡ everMeasured x cs i q
   mark-now = ever-measured x cs i small q few

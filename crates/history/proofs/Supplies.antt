@@ -38,7 +38,8 @@ off-bit p b e = (
   λ s. e ∙ ap not (supplies-exactly p .1 s),
 )
 
-module _ (x : Choice) (cs : List Call) (i : ℕ) (ok : granted x ≡ true) (small : i < numberOf x) (selected : reached x cs .unpaged .page ≡ i) where
+module _ (x : Choice) (cs : List Call) (i : ℕ) (ok : granted x ≡ true) (small : i < numberOf x)
+    (selected : reached x cs .unpaged .page ≡ i) where
   abbrev d : Device
   d = reached x cs
 
@@ -50,7 +51,8 @@ module _ (x : Choice) (cs : List Call) (i : ℕ) (ok : granted x ≡ true) (smal
   unfolding ReachedValid
   reads-code code byte readable =
       reads-data d (reached-valid x cs ok) code byte readable
-      (open-for (d .unpaged) code i (numberOf x) (granted-number x ok) small (rw (eq-eqb (d .unpaged .page) i selected) (or-true (isUnpaged code))))
+      (open-for (d .unpaged) code i (numberOf x) (granted-number x ok) small
+      (rw (eq-eqb (d .unpaged .page) i selected) (or-true (isUnpaged code))))
       (readData (d .unpaged) (pageOf d i) (commandOf code))
       (ap (λ (p : Page). readData (d .unpaged) p (commandOf code)) page-there)
 

@@ -1,5 +1,5 @@
--- When a cause or a warning is present in a run, by the calls of the run: codes, words and exact values (data sheet 6.2). Neither a field of a page
--- nor what a call does to it stands in this saying.
+-- When a cause or a warning is present in a run, by the calls of the run: codes, words and exact values (data sheet 6.2), without a field of
+-- a page and without what a call does to it.
 -- Assumes nothing.
 use Prim.Native.Nat.{ℕ, _+_, _*_, _<_}
 use mathlib.Core.Path.{_≡_}

@@ -1,5 +1,5 @@
--- When a cause or a warning is present, limit by limit, in the numbers of the data sheet (6.1, 6.2, 6.13). Neither the table of causes nor the
--- tests of Causes.antt stand in this saying, so that a slip made there and in the code alike is refused.
+-- When a cause or a warning is present, limit by limit, in the numbers of the data sheet (6.1, 6.2, 6.13). Neither the table of causes nor
+-- the tests of Causes.antt stand here, so that a slip made there and in the code alike is refused.
 -- Assumes nothing.
 use Prim.Native.Nat.{ℕ, _<_}
 use mathlib.Core.Path.{_≡_}
@@ -15,8 +15,8 @@ use Rattle.cause.specs.Causes.{Side, above, below}
 use Rattle.page.specs.declared.Page.{Page}
 use Rattle.page.specs.Causes.{present}
 
--- The value of a word of quantity q, as a whole number: an output voltage word, of quantity 0, is the number itself (data sheet 5.2), a Linear11
--- word stands for its value times 65,536 (5.4).
+-- The value of a word of quantity q, as a whole number: an output voltage word, of quantity 0, is the number itself (data sheet 5.2), and a
+-- Linear11 word stands for its value times 65,536 (5.4).
 unfoldable pub valueOf : ℕ → ℕ → ℤ
 valueOf q word = cond (eqb q 0) (pos word) (scaledOf word)
 

@@ -1,5 +1,5 @@
--- When a page supplies, as a list of plain facts in the numbers of the data sheet (7.6, 3.6, 7.12): a second saying of `supplies`, without the
--- tests that it is made of.
+-- When a page supplies, as a list of plain facts in the numbers of the data sheet (7.6, 3.6, 7.12), and without the tests that `supplies` is
+-- made of: a slip made there and in the code alike is refused.
 -- Assumes nothing.
 use Prim.Native.Nat.{ℕ, _≤_, _<_, _%_}
 use mathlib.Core.Path.{_≡_}
