@@ -23,4 +23,5 @@ pub mod StoredSteps
 pub mod ReadBack
 pub mod Presence
 pub mod Supplies
+pub mod PowerOn
 pub mod Claims

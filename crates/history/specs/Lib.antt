@@ -14,4 +14,5 @@ pub mod Effects
 pub mod ReadBack
 pub mod Presence
 pub mod Supplies
+pub mod PowerOn
 pub mod Claims

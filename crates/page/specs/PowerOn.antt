@@ -10,7 +10,7 @@ use Rattle.page.specs.Choice.{PageChoice, chosenPage}
 use Rattle.page.specs.Latching.{statusBit}
 use Rattle.page.specs.Status.{supplies, reading}
 
-pub record Quiet (p : Page) : Type 0 where
+pub record QuietPage (p : Page) : Type 0 where
   -- no cause and no warning is present
   pub absent : (n : ℕ) → n < 11 → present p n ≡ false
   -- every bit of the four status registers is 0
@@ -24,4 +24,4 @@ pub record Quiet (p : Page) : Type 0 where
   pub zero : (q : ℕ) → q < 4 → reading p q ≡ 0x0000
 
 unfoldable pub PowerOnQuiet : Type 0
-PowerOnQuiet = (c : PageChoice) → Quiet (chosenPage c)
+PowerOnQuiet = (c : PageChoice) → QuietPage (chosenPage c)

@@ -5,7 +5,7 @@ use mathlib.Core.Bool.{false}
 use Rattle.unpaged.specs.declared.Unpaged.{Unpaged}
 use Rattle.unpaged.specs.Unpaged.{powerOnUnpaged}
 
-pub record Quiet (u : Unpaged) : Type 0 where
+pub record QuietUnpaged (u : Unpaged) : Type 0 where
   -- page 0 is selected, and every write is permitted
   pub page : u .page ≡ 0
   pub protect : u .protect ≡ 0x00
@@ -18,4 +18,4 @@ pub record Quiet (u : Unpaged) : Type 0 where
   pub count : u .energy .count ≡ 0
 
 unfoldable pub PowerOnQuiet : Type 0
-PowerOnQuiet = Quiet powerOnUnpaged
+PowerOnQuiet = QuietUnpaged powerOnUnpaged
