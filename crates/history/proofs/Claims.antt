@@ -20,6 +20,11 @@ use Rattle.history.proofs.AlikePages.{supply-alike}
 use Rattle.history.proofs.Warnings.{stay-alike, warn-limits-aside}
 use Rattle.history.proofs.WarningReplies.{reply-alike}
 use Rattle.history.proofs.Valid.{fifteen, reached-valid, no-fifteen}
+use Rattle.page.proofs.Presence.{present-exactly}
+use Rattle.page.proofs.Supplies.{supplies-exactly}
+use Rattle.history.proofs.Presence.{present-means}
+use Rattle.history.proofs.Supplies.{held-off, supplies-asked}
+use Rattle.history.proofs.PowerOn.{power-on-quiet}
 
 pub claims : Claims
 claims =
@@ -63,4 +68,10 @@ claims =
       alert-cleared = alert-cleared;
       alert-answered = alert-answered;
       totals-trusted = totals-trusted;
+      present-exactly = present-exactly;
+      present-means = present-means;
+      supplies-exactly = supplies-exactly;
+      held-off = held-off;
+      supplies-asked = supplies-asked;
+      power-on-quiet = power-on-quiet;
     }

@@ -18,7 +18,11 @@ pub mod Effects
 pub mod Warnings
 pub mod WarningReplies
 pub mod Fields
+pub mod Measured
 pub mod Stored
 pub mod StoredSteps
 pub mod ReadBack
+pub mod Presence
+pub mod Supplies
+pub mod PowerOn
 pub mod Claims

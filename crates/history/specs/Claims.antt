@@ -17,6 +17,11 @@ use Rattle.history.specs.Alert.{AlertRises, AlertCleared, AlertAnswered}
 use Rattle.history.specs.Energy.{TotalsTrusted}
 use Rattle.history.specs.Effects.{Effects}
 use Rattle.history.specs.ReadBack.{StoredCodes, WrittenBack, WriteThenRead, MeasuredBack}
+use Rattle.page.specs.Presence.{PresentExactly}
+use Rattle.page.specs.Supplies.{SuppliesExactly}
+use Rattle.history.specs.Presence.{PresentMeans}
+use Rattle.history.specs.Supplies.{HeldOff, SuppliesAsked}
+use Rattle.history.specs.PowerOn.{PowerOnQuiet}
 
 pub record Claims : Type 0 where
   -- ---- which states get answer 15 (Valid.antt; data sheet 12)
@@ -108,3 +113,16 @@ pub record Claims : Type 0 where
   -- ---- energy (Energy.antt; data sheet 10)
   -- the host's totals are those of the samples that the device took, whichever replies are lost, repeated or damaged
   pub totals-trusted : TotalsTrusted
+  -- ---- presence and supplying, a second time (Presence.antt, Supplies.antt, PowerOn.antt, `page`'s; data sheet 6.2, 7.6, 1.4)
+  -- a cause or warning of a page is present exactly where its quantity was measured and lies strictly past its limit, by exact value
+  pub present-exactly : PresentExactly
+  -- so after every run, by the latest measurement and the latest limit written, or power-on's
+  pub present-means : PresentMeans
+  -- a page supplies exactly when it is on, not tripped, kept off by no present cause and held off by no machine
+  pub supplies-exactly : SuppliesExactly
+  -- STATUS_BYTE bit 6 and STATUS_WORD bit 11 are read as 0 exactly where the page supplies
+  pub held-off : HeldOff
+  -- and the firmware that asks whether a page supplies is told the same
+  pub supplies-asked : SuppliesAsked
+  -- after power-on nothing is present, no bit is 1, no page is tripped or supplies, and the alert is down
+  pub power-on-quiet : PowerOnQuiet
