@@ -5,3 +5,4 @@ pub mod Ready
 pub mod Bits
 pub mod StatusWords
 pub mod Chosen
+pub mod ValidFields

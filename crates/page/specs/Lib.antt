@@ -5,3 +5,4 @@ pub mod Settings
 pub mod Choice
 pub mod Status
 pub mod StatusWords
+pub mod ValidFields

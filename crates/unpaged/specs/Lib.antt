@@ -2,3 +2,4 @@ pub mod Unpaged
 pub mod Events
 pub mod Applies
 pub mod Refusals
+pub mod ValidFields
