@@ -18,6 +18,15 @@ use Rattle.history.proofs.AlikePages.{supply-alike}
 use Rattle.history.proofs.Warnings.{stay-alike, warn-limits-aside}
 use Rattle.history.proofs.WarningReplies.{reply-alike}
 use Rattle.history.proofs.Valid.{fifteen, reached-valid, no-fifteen}
+use Rattle.page.proofs.ValidFields.{page-valid-by-field}
+use Rattle.unpaged.proofs.ValidFields.{unpaged-valid-by-field}
+use Rattle.writes.proofs.Shows.{present-shows}
+use Rattle.reads.proofs.Gives.{reads-give, alert-replies}
+use Rattle.totalizer.proofs.Applies.{takes-apply}
+use Rattle.history.specs.EnergyExample.{copies-occur}
+use Rattle.history.proofs.ValidFields.{fifteen-by-field}
+use Rattle.history.proofs.EveryPage.{as-selected, paged-agrees}
+use Rattle.history.proofs.PowerOn.{power-on-reads}
 
 pub claims : Claims
 claims =
@@ -56,4 +65,15 @@ claims =
       alert-cleared = alert-cleared;
       alert-answered = alert-answered;
       totals-trusted = totals-trusted;
+      fifteen-by-field = fifteen-by-field;
+      page-valid-by-field = page-valid-by-field;
+      unpaged-valid-by-field = unpaged-valid-by-field;
+      reads-give = reads-give;
+      alert-replies = alert-replies;
+      power-on-reads = power-on-reads;
+      present-shows = present-shows;
+      as-selected = as-selected;
+      paged-agrees = paged-agrees;
+      copies-occur = copies-occur;
+      takes-apply = takes-apply;
     }

@@ -20,4 +20,7 @@ pub mod Fields
 pub mod Stored
 pub mod StoredSteps
 pub mod ReadBack
+pub mod ValidFields
+pub mod EveryPage
+pub mod PowerOn
 pub mod Claims

@@ -83,7 +83,7 @@ module _ (d : Device) (v : deviceValid d ≡ true) (code : ℕ) (small : code < 
       (replies-follow (d .unpaged) (pageShown d) (0xC0 ∷ code ∷ 0xC1 ∷ []) (lookup code .length)
       (omega arith, (small, (omega arith, tt))) .plain answers refl)
 
-  reads-data : (bytes : List ℕ) → readData (d .unpaged) (pageShown d) (commandOf code) ≡ bytes → Reads d code bytes
+  pub reads-data : (bytes : List ℕ) → readData (d .unpaged) (pageShown d) (commandOf code) ≡ bytes → Reads d code bytes
   reads-data bytes e = record { accepted = read-answer; reply = read-reply ∙ e }
 
 -- ---- runs

@@ -12,4 +12,7 @@ pub mod Energy
 pub mod EnergyExample
 pub mod Effects
 pub mod ReadBack
+pub mod ValidFields
+pub mod EveryPage
+pub mod PowerOn
 pub mod Claims
