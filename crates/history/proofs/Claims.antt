@@ -25,6 +25,15 @@ use Rattle.page.proofs.Supplies.{supplies-exactly}
 use Rattle.history.proofs.Presence.{present-means}
 use Rattle.history.proofs.Supplies.{held-off, supplies-asked}
 use Rattle.history.proofs.PowerOn.{power-on-quiet}
+use Rattle.page.proofs.ValidFields.{page-valid-by-field}
+use Rattle.unpaged.proofs.ValidFields.{unpaged-valid-by-field}
+use Rattle.writes.proofs.Shows.{present-shows}
+use Rattle.reads.proofs.Gives.{reads-give, alert-replies}
+use Rattle.totalizer.proofs.Applies.{takes-apply}
+use Rattle.history.specs.EnergyExample.{copies-occur}
+use Rattle.history.proofs.ValidFields.{fifteen-by-field}
+use Rattle.history.proofs.EveryPage.{as-selected, paged-agrees}
+use Rattle.history.proofs.PowerOnReads.{power-on-reads}
 
 pub claims : Claims
 claims =
@@ -74,4 +83,15 @@ claims =
       held-off = held-off;
       supplies-asked = supplies-asked;
       power-on-quiet = power-on-quiet;
+      fifteen-by-field = fifteen-by-field;
+      page-valid-by-field = page-valid-by-field;
+      unpaged-valid-by-field = unpaged-valid-by-field;
+      reads-give = reads-give;
+      alert-replies = alert-replies;
+      power-on-reads = power-on-reads;
+      present-shows = present-shows;
+      as-selected = as-selected;
+      paged-agrees = paged-agrees;
+      copies-occur = copies-occur;
+      takes-apply = takes-apply;
     }

@@ -24,5 +24,8 @@ pub mod StoredSteps
 pub mod ReadBack
 pub mod Presence
 pub mod Supplies
+pub mod ValidFields
+pub mod EveryPage
 pub mod PowerOn
+pub mod PowerOnReads
 pub mod Claims

@@ -22,6 +22,15 @@ use Rattle.page.specs.Supplies.{SuppliesExactly}
 use Rattle.history.specs.Presence.{PresentMeans}
 use Rattle.history.specs.Supplies.{HeldOff, SuppliesAsked}
 use Rattle.history.specs.PowerOn.{PowerOnQuiet}
+use Rattle.history.specs.ValidFields.{FifteenByField}
+use Rattle.history.specs.EveryPage.{AsSelected, PagedAgrees}
+use Rattle.history.specs.PowerOnReads.{PowerOnReads}
+use Rattle.history.specs.EnergyExample.{CopiesOccur}
+use Rattle.page.specs.ValidFields.{PageValidByField}
+use Rattle.unpaged.specs.ValidFields.{UnpagedValidByField}
+use Rattle.writes.specs.Shows.{PresentShows}
+use Rattle.reads.specs.Gives.{ReadsGive, AlertReplies}
+use Rattle.totalizer.specs.Applies.{TakesApply}
 
 pub record Claims : Type 0 where
   -- ---- which states get answer 15 (Valid.antt; data sheet 12)
@@ -126,3 +135,24 @@ pub record Claims : Type 0 where
   pub supplies-asked : SuppliesAsked
   -- after power-on nothing is present, no bit is 1, no page is tripped or supplies, and the alert is down
   pub power-on-quiet : PowerOnQuiet
+  -- ---- the same in numbers: by field and by code (ValidFields.antt, EveryPage.antt, PowerOnReads.antt; data sheet 12.2, 3.1, 3.2, 3.8, 1.4)
+  -- answer 15 exactly by a list of fields, every other one aside; the lists of a page and of the unpaged part
+  pub fifteen-by-field : FifteenByField
+  pub page-valid-by-field : PageValidByField
+  pub unpaged-valid-by-field : UnpagedValidByField
+  -- what a read of each code gives, and the reply to an alert response (`reads`, Gives.antt)
+  pub reads-give : ReadsGive
+  pub alert-replies : AlertReplies
+  -- what every code reads right after power-on, and that the alert is down
+  pub power-on-reads : PowerOnReads
+  -- a write of a paged code leaves the bit of what is present at 1 (`writes`, Shows.antt)
+  pub present-shows : PresentShows
+  -- under PAGE FFh a write answers and leaves each page as with that page selected
+  pub as-selected : AsSelected
+  -- the codes without a page are those whose data do not depend on one
+  pub paged-agrees : PagedAgrees
+  -- ---- energy, by example and by answer (EnergyExample.antt, `totalizer`'s Applies.antt; data sheet 10, 11.5)
+  -- a run with copies of replies, one damaged, and its history: what the guarantee is about occurs
+  pub copies-occur : CopiesOccur
+  -- when each answer of the totalizer applies, by the bytes, and what it leaves
+  pub takes-apply : TakesApply

@@ -8,3 +8,4 @@ pub mod Chosen
 pub mod Presence
 pub mod Supplies
 pub mod PowerOn
+pub mod ValidFields
