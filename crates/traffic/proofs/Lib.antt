@@ -1,6 +1,13 @@
 pub mod Traffic
 pub mod Runs
+pub mod Follow
+pub mod Whole
+pub mod Breach
+pub mod Fifteen
+pub mod Energy
 pub mod StoredDevice
 pub mod Fitting
 pub mod Buffers
 pub mod Occurs
+pub mod Transactions
+pub mod Claims

@@ -1,4 +1,10 @@
 pub mod Traffic
 pub mod Runs
+pub mod Whole
+pub mod Breach
+pub mod Fifteen
+pub mod Energy
 pub mod Buffers
 pub mod Occurs
+pub mod Transactions
+pub mod Claims
