@@ -14,9 +14,9 @@ use Rattle.device.specs.Step.{alertResponse, step}
 use Rattle.history.specs.Run.{answer}
 use Rattle.history.specs.ReadBack.{Reads, stored}
 
--- the codes that are read and not written, with their data: nothing measured, no bit set, not supplying
-abbrev pub onlyRead : List (ℕ × List ℕ)
-onlyRead =
+-- the codes that are read and keep nothing written to them, with their data: nothing measured, no bit set, not supplying
+abbrev pub notStored : List (ℕ × List ℕ)
+notStored =
     (0x19, 0xB0 ∷ [])  -- CAPABILITY
     ∷ (0x20, 0x13 ∷ [])  -- VOUT_MODE
     ∷ (0x78, 0x40 ∷ [])  -- STATUS_BYTE: not supplying
@@ -36,7 +36,7 @@ onlyRead =
 
 -- each code that is read, with its data: page 0 is selected and off, and what is stored is as listed in ReadBack.antt
 abbrev pub atPowerOn : List (ℕ × List ℕ)
-atPowerOn = stored ++ onlyRead
+atPowerOn = stored ++ notStored
 
 abbrev pub rowAt : ℕ → ℕ × List ℕ
 rowAt m = getD atPowerOn m (0x00, 0x00 ∷ [])
