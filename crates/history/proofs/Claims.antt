@@ -19,7 +19,9 @@ use Rattle.history.proofs.Warnings.{stay-alike, warn-limits-aside}
 use Rattle.history.proofs.WarningReplies.{reply-alike}
 use Rattle.history.proofs.Valid.{fifteen, reached-valid, no-fifteen}
 use Rattle.page.proofs.ValidFields.{page-valid-by-field}
+use Rattle.page.proofs.PowerOn.{power-on-fresh}
 use Rattle.unpaged.proofs.ValidFields.{unpaged-valid-by-field}
+use Rattle.unpaged.proofs.PowerOn.{power-on-quiet}
 use Rattle.writes.proofs.Shows.{present-shows}
 use Rattle.reads.proofs.Gives.{reads-give, alert-replies}
 use Rattle.totalizer.proofs.Applies.{takes-apply}
@@ -71,6 +73,8 @@ claims =
       reads-give = reads-give;
       alert-replies = alert-replies;
       power-on-reads = power-on-reads;
+      power-on-fresh = power-on-fresh;
+      power-on-quiet = power-on-quiet;
       present-shows = present-shows;
       as-selected = as-selected;
       paged-agrees = paged-agrees;

@@ -20,7 +20,9 @@ use Rattle.history.specs.EveryPage.{AsSelected, PagedAgrees}
 use Rattle.history.specs.PowerOn.{PowerOnReads}
 use Rattle.history.specs.EnergyExample.{CopiesOccur}
 use Rattle.page.specs.ValidFields.{PageValidByField}
+use Rattle.page.specs.PowerOn.{PowerOnFresh}
 use Rattle.unpaged.specs.ValidFields.{UnpagedValidByField}
+use Rattle.unpaged.specs.PowerOn.{PowerOnQuiet}
 use Rattle.writes.specs.Shows.{PresentShows}
 use Rattle.reads.specs.Gives.{ReadsGive, AlertReplies}
 use Rattle.totalizer.specs.Applies.{TakesApply}
@@ -115,6 +117,9 @@ pub record Claims : Type 0 where
   pub alert-replies : AlertReplies
   -- what every code reads right after power-on, and that the alert is down
   pub power-on-reads : PowerOnReads
+  -- a page is let on by OPERATION 80h then, and so is neither tripped nor held off; the unpaged part is as listed (`page`, `unpaged`)
+  pub power-on-fresh : PowerOnFresh
+  pub power-on-quiet : PowerOnQuiet
   -- a write of a paged code leaves the bit of what is present at 1 (`writes`, Shows.antt)
   pub present-shows : PresentShows
   -- under PAGE FFh a write answers and leaves each page as with that page selected

@@ -6,3 +6,4 @@ pub mod Bits
 pub mod StatusWords
 pub mod Chosen
 pub mod ValidFields
+pub mod PowerOn

@@ -6,3 +6,4 @@ pub mod Choice
 pub mod Status
 pub mod StatusWords
 pub mod ValidFields
+pub mod PowerOn

@@ -1,3 +1,4 @@
 pub mod Applies
 pub mod Refusals
 pub mod ValidFields
+pub mod PowerOn

@@ -3,3 +3,4 @@ pub mod Events
 pub mod Applies
 pub mod Refusals
 pub mod ValidFields
+pub mod PowerOn
