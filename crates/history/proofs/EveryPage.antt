@@ -11,6 +11,7 @@ use borrow.Author.Tests.{eqb-true, eqb-false, eq-eqb, lt-ltb}
 use Rattle.laws.proofs.Branches.{either}
 use Rattle.laws.proofs.Every.{agree-test}
 use Rattle.laws.proofs.Places.{map-at}
+use Rattle.account.specs.Account.{einBytes}
 use Rattle.command.specs.Table.{table, entryOf, lookup}
 use Rattle.command.specs.Meaning.{commandOf, settingOf, faultOf, readingOf}
 use Rattle.command.specs.Paged.{paged}
@@ -96,6 +97,7 @@ firstOf p c = getD (readData powerOnUnpaged p (commandOf c)) 0 0
 differs : (c : ℕ) → c < 256 → (lookup c .read && not (isIn c unpagedCodes)) ≡ not (eqb (firstOf (filled 0 false) c) (firstOf (filled 1 true) c))
 unfolding
     lookup entryOf table commandOf settingOf faultOf readingOf readData statusRegister reading statusByte supplies weigh powerOnUnpaged
+    einBytes
 differs c h =
     agree-test (λ c. lookup c .read && not (isIn c unpagedCodes)) (λ c. not (eqb (firstOf (filled 0 false) c) (firstOf (filled 1 true) c))) 256 tt c h
 
