@@ -16,6 +16,7 @@ use Rattle.traffic.proofs.Occurs.{phase-occurs, count-occurs, clocked-o
 use Rattle.traffic.proofs.Runs.{no-fifteen, as-run, same-outcomes, until-stop}
 use Rattle.traffic.proofs.Traffic.{writes-between, reads-between, acks-between}
 use Rattle.traffic.proofs.Transactions.{over-buffer}
+use Rattle.traffic.proofs.Underway.{by-orders}
 use Rattle.traffic.proofs.Whole.{as-calls, transactions-alike, reaches}
 
 pub claims : StreamClaims
@@ -54,6 +55,7 @@ claims =
       clocked-occurs = clocked-occurs;
       bytes-occur = bytes-occur;
       reply-occurs = reply-occurs;
+      by-orders = by-orders;
       as-calls = as-calls;
       transactions-alike = transactions-alike;
       reaches = reaches;

@@ -1,5 +1,5 @@
--- Everything that is guaranteed of the streaming device, over single events and over runs: the table of contents of this folder and of crates bus
--- and stream, a line for each statement. proofs/Claims.antt proves the whole, so that none goes missing.
+-- Everything that is guaranteed of the streaming device, over single events and over runs: the table of contents of this folder and of
+-- crates bus and stream, a line for each statement. proofs/Claims.antt proves the whole, so that none goes missing.
 -- Assumes nothing.
 use Rattle.bus.specs.Ack.{AbsentExactly, NackedFirst, NackedSecond}
 use Rattle.bus.specs.Orders.{EveryOrder, OrdersLead, BreachLasts}
@@ -10,6 +10,7 @@ use Rattle.traffic.specs.Traffic.{WritesBetween, ReadsBetween, AcksBetwe
 use Rattle.traffic.specs.Breach.{BreachBetween}
 use Rattle.traffic.specs.Fifteen.{FifteenExactly}
 use Rattle.traffic.specs.Runs.{NoFifteen, AsRun, SameOutcomes, Reaches, UntilStop}
+use Rattle.traffic.specs.Underway.{ByOrders}
 use Rattle.traffic.specs.Whole.{AsCalls, TransactionsAlike}
 use Rattle.traffic.specs.Energy.{StreamEnergy}
 use Rattle.traffic.specs.Occurs.{PhaseOccurs, CountOccurs, ClockedOccurs, BytesOccur, ReplyOccurs}
@@ -88,7 +89,9 @@ pub record StreamClaims : Type 0 where
   pub bytes-occur : BytesOccur
   -- and each byte of a reply
   pub reply-occurs : ReplyOccurs
-  -- ---- runs (Whole.antt, Runs.antt; data sheet 17.13)
+  -- ---- runs (Underway.antt, Whole.antt, Runs.antt; data sheet 17.13)
+  -- what is under way, told by the turns, is what the two orders say
+  pub by-orders : ByOrders
   -- every run of events and calls is a run of whole calls, with the same device and the same answers, and the turns tell which calls
   pub as-calls : AsCalls
   -- behind every run a transaction with nothing between leaves, answers and sends what the whole call does

@@ -1,5 +1,6 @@
 pub mod Traffic
 pub mod Runs
+pub mod Underway
 pub mod Whole
 pub mod Breach
 pub mod Fifteen

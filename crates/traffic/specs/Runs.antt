@@ -5,7 +5,7 @@ use mathlib.Core.Path.{_≡_}
 use mathlib.Core.Bool.{true}
 use mathlib.Core.List.{List, [], _∷_, _++_}
 use Rattle.bus.specs.Part.{started, idle}
-use Rattle.bus.specs.Automaton.{start, byte, again, clock, stop}
+use Rattle.bus.specs.Automaton.{Event, start, byte, again, clock, stop}
 use Rattle.bus.specs.Orders.{writeOrder, readOrder}
 use Rattle.device.specs.declared.Device.{Device}
 use Rattle.device.specs.Device.{Choice, granted, powerOn}
@@ -87,3 +87,21 @@ unfoldable pub UntilStop : Type 0
 UntilStop =
     (s : State) (ts : List Turn) → stateValid s ≡ true → NoStop ts
     → (feed s ts .device ≡ run (s .device) (callsIn ts)) × (after (feed s ts) (on start) ≡ state started (feed s ts .device))
+
+-- ---- the turns between START and STOP
+
+-- neither START nor STOP
+abbrev pub Within : List Turn → Type 0
+Within [] = Unit
+Within (on start ∷ ts) = ⊥
+Within (on (byte b) ∷ ts) = Within ts
+Within (on again ∷ ts) = Within ts
+Within (on clock ∷ ts) = Within ts
+Within (on stop ∷ ts) = ⊥
+Within (call c ∷ ts) = Within ts
+
+-- the events alone
+abbrev pub eventsIn : List Turn → List Event
+eventsIn [] = []
+eventsIn (on e ∷ ts) = e ∷ eventsIn ts
+eventsIn (call c ∷ ts) = eventsIn ts
