@@ -11,6 +11,7 @@ use Rattle.traffic.specs.Claims.{StreamClaims}
 use Rattle.traffic.proofs.Breach.{breach-between}
 use Rattle.traffic.proofs.Buffers.{decodes, events-decode, calls-decode, power-decodes, length-stays, gives-same, left-alone, wrong-length, buffer-runs, always-ready}
 use Rattle.traffic.proofs.Energy.{stream-energy}
+use Rattle.traffic.proofs.EnergyExample.{reads-example}
 use Rattle.traffic.proofs.Fifteen.{fifteen-exactly}
 use Rattle.traffic.proofs.Occurs.{phase-occurs, count-occurs, clocked-occurs, bytes-occur, reply-occurs}
 use Rattle.traffic.proofs.Runs.{no-fifteen, as-run, same-outcomes, until-stop}
@@ -62,6 +63,7 @@ claims =
       as-run = as-run;
       same-outcomes = same-outcomes;
       stream-energy = stream-energy;
+      reads-example = reads-example;
       decodes = decodes;
       events-decode = events-decode;
       calls-decode = calls-decode;

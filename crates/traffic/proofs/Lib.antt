@@ -6,6 +6,7 @@ pub mod Whole
 pub mod Breach
 pub mod Fifteen
 pub mod Energy
+pub mod EnergyExample
 pub mod StoredDevice
 pub mod Fitting
 pub mod Buffers

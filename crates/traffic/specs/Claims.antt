@@ -13,6 +13,7 @@ use Rattle.traffic.specs.Runs.{NoFifteen, AsRun, SameOutcomes, Reaches, 
 use Rattle.traffic.specs.Underway.{ByOrders}
 use Rattle.traffic.specs.Whole.{AsCalls, TransactionsAlike}
 use Rattle.traffic.specs.Energy.{StreamEnergy}
+use Rattle.traffic.specs.EnergyExample.{ReadsExample}
 use Rattle.traffic.specs.Occurs.{PhaseOccurs, CountOccurs, ClockedOccurs, BytesOccur, ReplyOccurs}
 use Rattle.traffic.specs.Buffers.{Decodes, EventsDecode, CallsDecode, PowerDecodes, LengthStays, GivesSame, LeftAlone, WrongLength, BufferRuns, AlwaysReady}
 use Rattle.traffic.specs.Transactions.{OverBuffer}
@@ -105,6 +106,8 @@ pub record StreamClaims : Type 0 where
   -- ---- energy (Energy.antt; data sheet 15.7)
   -- the host's totals are those of the samples that the device took, in every run, with calls between the events of a read as well
   pub stream-energy : StreamEnergy
+  -- there are such runs: two reads, with a sample taken while each reply is on its way (EnergyExample.antt)
+  pub reads-example : ReadsExample
   -- ---- the lent buffer (Buffers.antt; data sheet 17.11 to 17.13)
   -- the bytes of a state hold it
   pub decodes : Decodes

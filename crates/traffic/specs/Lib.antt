@@ -5,6 +5,7 @@ pub mod Whole
 pub mod Breach
 pub mod Fifteen
 pub mod Energy
+pub mod EnergyExample
 pub mod Buffers
 pub mod Occurs
 pub mod Transactions
