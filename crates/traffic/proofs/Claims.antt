@@ -13,6 +13,7 @@ use Rattle.traffic.proofs.Buffers.{decodes, events-decode, calls-decode
 use Rattle.traffic.proofs.Energy.{stream-energy}
 use Rattle.traffic.proofs.EnergyExample.{reads-example}
 use Rattle.traffic.proofs.Fifteen.{fifteen-exactly}
+use Rattle.traffic.proofs.Nacks.{nack-exactly}
 use Rattle.traffic.proofs.Occurs.{phase-occurs, count-occurs, clocked-occurs, bytes-occur, reply-occurs}
 use Rattle.traffic.proofs.Runs.{no-fifteen, as-run, same-outcomes, until-stop}
 use Rattle.traffic.proofs.Traffic.{writes-between, reads-between, acks-between}
@@ -34,6 +35,7 @@ claims =
       nacked-second = nacked-second;
       acked-first = acked-first;
       acked-second = acked-second;
+      nack-exactly = nack-exactly;
       every-order = every-order;
       orders-lead = orders-lead;
       breach-lasts = breach-lasts;

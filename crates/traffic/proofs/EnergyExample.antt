@@ -73,11 +73,11 @@ intact-told (t ∷ ts) s u g e =
 
 pub reads-example : ReadsExample
 unfolding
-    ReadsExample turns streamLog pendingAfter callPending logCopies accountValid added sampled einBytes accountOf freshTotalizer energyReading
-    clockedFor replyCheck checkHolds accountAnswer replyAnswer nextEnergy nextSamples booked totalize totalizing.added pec pecFrom pecByte
-    pecBit table entryOf lookup commandOf readingOf paged powerOnPage pageValid validOperation allValid causes powerOnUnpaged validPage
-    validProtect unpagedValid refused shown plainOf addressedOf requestOf dataAnswer requestAnswer readAnswer answersData readData requestData
-    checked readStream usual chosenPage chosenUnpaged powerOn supported deviceValid step answerOf calls.answered effect left sent partValid
-    idle started taking clocking afterByte afterAgain afterClock byted restarted clocked partAfter clockByte stateValid byteTaken partNext
-    ended byteSent stopped called deviceNext after
+    ReadsExample turns streamLog pendingAfter callPending logCopies accountValid added sampled einBytes accountOf freshTotalizer
+    energyReading clockedFor replyCheck checkHolds accountAnswer replyAnswer nextEnergy nextSamples booked totalize totalizing.added pec
+    pecFrom pecByte pecBit table entryOf lookup commandOf readingOf paged powerOnPage pageValid validOperation allValid causes
+    powerOnUnpaged validPage validProtect unpagedValid refused shown plainOf addressedOf requestOf dataAnswer requestAnswer readAnswer
+    answersData readData requestData checked readStream usual chosenPage chosenUnpaged powerOn supported deviceValid step answerOf
+    calls.answered effect left sent partValid idle started taking clocking afterByte afterAgain afterClock byted restarted clocked
+    partAfter clockByte stateValid byteTaken partNext ended byteSent stopped called deviceNext after
 reads-example = (intact-told turns (begun (usual 8)) nothing fresh refl, refl)

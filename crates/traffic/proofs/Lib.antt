@@ -4,6 +4,7 @@ pub mod Underway
 pub mod Follow
 pub mod Whole
 pub mod Breach
+pub mod Nacks
 pub mod Fifteen
 pub mod Energy
 pub mod EnergyExample

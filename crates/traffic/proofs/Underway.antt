@@ -17,14 +17,18 @@ use Rattle.traffic.proofs.Runs.{within-inner}
 
 -- ---- calls aside
 
-abbrev withEvents : Underway → List Event → Underway
+abbrev pub withEvents : Underway → List Event → Underway
 withEvents u [] = u
 withEvents u (e ∷ es) = withEvents (withEvent u e) es
 
-calls-aside : (ts : List Turn) (u : Underway) → underway u ts ≡ withEvents u (eventsIn ts)
+pub calls-aside : (ts : List Turn) (u : Underway) → underway u ts ≡ withEvents u (eventsIn ts)
 calls-aside [] u = refl
 calls-aside (on e ∷ ts) u = calls-aside ts (withEvent u e)
 calls-aside (call c ∷ ts) u = calls-aside ts u
+
+pub events-append : (es fs : List Event) (u : Underway) → withEvents u (es ++ fs) ≡ withEvents (withEvents u es) fs
+events-append [] fs u = refl
+events-append (e ∷ es) fs u = events-append es fs (withEvent u e)
 
 nothing-on : (es : List Event) → Inner es → withEvents nothing es ≡ nothing
 nothing-on [] i = refl
@@ -101,17 +105,22 @@ bytes-on [] acc es = ap (λ (l : List ℕ). withEvents (bytes l) es) (sym (appen
 bytes-on (b ∷ bs) acc es =
     bytes-on bs (acc ++ b ∷ []) es ∙ ap (λ (l : List ℕ). withEvents (bytes l) es) (append-snoc acc b bs)
 
+pub told-bytes : (es : List Event) (bs : List ℕ) → es ≡ map byte bs → withEvents (bytes []) es ≡ bytes bs
+told-bytes es bs e = ap (withEvents (bytes [])) (e ∙ sym (append-nil (map byte bs))) ∙ bytes-on bs [] []
+
+pub told-turned : (es : List Event) (bs : List ℕ) → es ≡ map byte bs ++ (again ∷ []) → withEvents (bytes []) es ≡ turned bs
+told-turned es bs e = ap (withEvents (bytes [])) e ∙ bytes-on bs [] (again ∷ [])
+
 clocks-on : (m : ℕ) (h : List ℕ) (n : ℕ) → withEvents (asked h n) (replicate m clock) ≡ nothing → ⊥
 clocks-on zero h n e = let z : _≡_ {A = ℕ} 0 1 = cc in omega arith
 clocks-on (suc m) h n e = clocks-on m h (suc n) e
 
-not-nothing : (es : List Event) → Begins es → withEvents (bytes []) es ≡ nothing → ⊥
+pub not-nothing : (es : List Event) → Begins es → withEvents (bytes []) es ≡ nothing → ⊥
 not-nothing es (places.bytes bs e) q =
-    let h = ap (withEvents (bytes [])) (append-nil (map byte bs) ∙ sym e) in
-    let r : bytes bs ≡ nothing = sym (bytes-on bs [] []) ∙ h ∙ q in
+    let r : bytes bs ≡ nothing = sym (told-bytes es bs e) ∙ q in
     let z : _≡_ {A = ℕ} 0 1 = cc in omega arith
 not-nothing es (turn bs e) q =
-    let r : turned bs ≡ nothing = sym (bytes-on bs [] (again ∷ [])) ∙ ap (withEvents (bytes [])) (sym e) ∙ q in
+    let r : turned bs ≡ nothing = sym (told-turned es bs e) ∙ q in
     let z : _≡_ {A = ℕ} 0 1 = cc in omega arith
 not-nothing es (clocks bs b n e) q =
     clocks-on n (bs ++ b ∷ []) 0

@@ -8,6 +8,7 @@ use Rattle.bus.specs.Fields.{ValidFields}
 use Rattle.stream.specs.Claims.{WriteByEleven, ReadByEleven, Written, Read, EveryEnd, AckedFirst, AckedSecond, Breach, NoStart, Dropped, Fifteen, PartStays}
 use Rattle.traffic.specs.Traffic.{WritesBetween, ReadsBetween, AcksBetween}
 use Rattle.traffic.specs.Breach.{BreachBetween}
+use Rattle.traffic.specs.Nacks.{NackExactly}
 use Rattle.traffic.specs.Fifteen.{FifteenExactly}
 use Rattle.traffic.specs.Runs.{NoFifteen, AsRun, SameOutcomes, Reaches, UntilStop}
 use Rattle.traffic.specs.Underway.{ByOrders}
@@ -43,6 +44,8 @@ pub record StreamClaims : Type 0 where
   pub acked-first : AckedFirst
   -- and after a repeated START
   pub acked-second : AckedSecond
+  -- all in one: after START, with calls between or not, NACK goes exactly to these and to bytes out of their places (Nacks.antt)
+  pub nack-exactly : NackExactly
   -- ---- order (bus' Orders.antt and Places.antt, Breach.antt; data sheet 17.3, 17.8, 17.9)
   -- every list of events since START is a write, a read, the beginning of a read, or a breach of order
   pub every-order : EveryOrder

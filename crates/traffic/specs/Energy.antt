@@ -1,7 +1,7 @@
 -- The energy guarantee of the streaming device (data sheet 15.7): one claim about every list of events and calls from power-on, orderly or
--- not, with other calls between the events of a read as well, and every choice of copies of its energy replies. It is that of crate history,
--- but for the place of a reply among the samples: a reply is made at the second address byte and ended at STOP, so the samples between two
--- replies are those between their second address bytes.
+-- not, with other calls between the events of a read as well, and every choice of copies of its energy replies. It is that of crate
+-- history, but for the place of a reply among the samples: a reply is made at the second address byte and ended at STOP, so the samples
+-- between two replies are those between their second address bytes.
 -- Assumes nothing.
 use Prim.Native.Nat.{ℕ}
 use mathlib.Core.Path.{_≡_}

@@ -3,6 +3,7 @@ pub mod Runs
 pub mod Underway
 pub mod Whole
 pub mod Breach
+pub mod Nacks
 pub mod Fifteen
 pub mod Energy
 pub mod EnergyExample

@@ -63,8 +63,7 @@ wholeAlong d (c ∷ cs) = record { answer = answer d c; sent = step d c .reply }
 unfoldable pub SameOutcomes : Type 0
 SameOutcomes = (d : Device) (l : List Item) → givenAlong (state idle d) l ≡ wholeAlong d (callsOf l)
 
--- ---- every run, orderly or not, with anything between: its device is one that whole calls reach, so that what holds of each state of a run
--- of whole calls (crate history) holds of it
+-- ---- every run, orderly or not, with anything between: its device is one that whole calls reach; Whole.antt says which calls these are
 unfoldable pub Reaches : Type 0
 Reaches = (x : Choice) (ts : List Turn) → (cs : List Call) × (feed (state idle (powerOn x)) ts .device ≡ reached x cs)
 

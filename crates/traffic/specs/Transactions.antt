@@ -1,6 +1,6 @@
 -- A transaction over a lent buffer, event by event, in the words of what is exported (crate buffer: `eventFed`, `eventGives`): at STOP the
--- device that the buffer holds, the answer and the bytes sent are the whole-transaction device's on the same bytes, however many (data sheet
--- 17.5, 17.6).
+-- device that the buffer holds, the answer and the bytes sent are the whole-transaction device's on the same bytes, however many (data
+-- sheet 17.5, 17.6).
 -- Assumes nothing.
 use Prim.Native.Nat.{ℕ}
 use mathlib.Core.Path.{_≡_}
