@@ -68,7 +68,8 @@ module _ (s : List ℕ) where
   unfolding orderly
   not-orderly (wrongAddress l n) = rw (ne-eqb (length s) 0 (λ e. omega arith), ne-eqb (getD s 0 0) 0xC0 n)
   not-orderly (absentCode l k) =
-      rw (ne-eqb (length s) 0 (λ e. omega arith), ne-eqb (length s) 1 (λ e. omega arith), unknown (getD s 1 0) k) (cond-same (eqb (getD s 0 0) 0xC0) false)
+      rw (ne-eqb (length s) 0 (λ e. omega arith), ne-eqb (length s) 1 (λ e. omega arith), unknown (getD s 1 0) k)
+      (cond-same (eqb (getD s 0 0) 0xC0) false)
 
   module _ (b : ℕ) where
     refused : ackedFirst s b ≡ false → Refused s b
@@ -91,7 +92,8 @@ module _ (s : List ℕ) where
     unfolding ackedFirst roomBehind
     nack-first (afterWrong (wrongAddress l n)) = rw (ne-eqb (length s) 0 (λ e. omega arith), ne-eqb (getD s 0 0) 0xC0 n)
     nack-first (afterWrong (absentCode l k)) =
-        rw (ne-eqb (length s) 0 (λ e. omega arith), ne-eqb (length s) 1 (λ e. omega arith), unknown (getD s 1 0) k) (cond-same (eqb (getD s 0 0) 0xC0) false)
+        rw (ne-eqb (length s) 0 (λ e. omega arith), ne-eqb (length s) 1 (λ e. omega arith), unknown (getD s 1 0) k)
+        (cond-same (eqb (getD s 0 0) 0xC0) false)
     nack-first (otherAddress e n) = rw (eq-eqb (length s) 0 e) (ne-eqb b 0xC0 n)
     nack-first (otherCode e k) =
         rw (ne-eqb (length s) 0 (λ z. omega arith), eq-eqb (length s) 1 e, unknown b k) (cond-same (eqb (getD s 0 0) 0xC0) false)

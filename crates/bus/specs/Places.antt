@@ -1,5 +1,5 @@
--- Which events are in their places, and what every other event gets (data sheet 17.3, 17.8). It is said by the two orders as they stand, by what
--- came since START, and not by the phases that Automaton.antt has for them.
+-- Which events are in their places, and what every other event gets (data sheet 17.3, 17.8). It is said by the two orders as they stand, by
+-- what came since START, and not by the phases that Automaton.antt has for them.
 -- Assumes nothing.
 use Prim.Native.Nat.{ℕ}
 use mathlib.Core.Path.{_≡_}

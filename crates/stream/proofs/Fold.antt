@@ -109,11 +109,11 @@ module _ (s : State) (h : List ℕ) where
   unfolding stopped ended
   heard-turn k = rw (whole s (k .kept) (k .valid), other-eqb _ 1 2 (k .phase-is) refl, other-eqb _ 3 2 (k .phase-is) refl)
 
-  heard-first : (b : ℕ) → Hears 1 s h → byteAck s b ≡ ackedFirst h b
+  pub heard-first : (b : ℕ) → Hears 1 s h → byteAck s b ≡ ackedFirst h b
   unfolding byteAck ackIn
   heard-first b k = rw (whole s (k .kept) (k .valid), eq-eqb _ _ (k .phase-is), k .holds .same) (first-cut h b)
 
-  heard-second : (b : ℕ) → Hears 2 s h → byteAck s b ≡ ackedSecond h b
+  pub heard-second : (b : ℕ) → Hears 2 s h → byteAck s b ≡ ackedSecond h b
   unfolding byteAck ackIn
   heard-second b k =
       rw (whole s (k .kept) (k .valid), other-eqb _ 1 2 (k .phase-is) refl, eq-eqb _ _ (k .phase-is), k .holds .same)

@@ -10,7 +10,7 @@ use Rattle.bus.specs.declared.Part.{Part}
 use Rattle.bus.specs.Part.{started}
 use Rattle.bus.specs.Automaton.{Event, start, byte, again, clock, stop, partAfter, partOf, clockByte}
 use Rattle.bus.specs.Ack.{ackOf, ackIn}
-use Rattle.bus.specs.Orders.{Inner, Order, aWrite, aTurn, aRead, aBreach, EveryOrder}
+use Rattle.bus.specs.Orders.{Order, aWrite, aTurn, aRead, aBreach, EveryOrder}
 use Rattle.bus.specs.Places.{bytes, turn, clocks, write, read}
 use Rattle.bus.proofs.Orders.{every-order}
 use Rattle.bus.proofs.Places.{no-ack, no-reply, more-bytes, second-address, more-clocks}
@@ -19,22 +19,13 @@ use Rattle.device.specs.Step.{Call, done}
 use Rattle.stream.specs.Stream.{State, stateValid, partNext, ended, byteAck, byteSent, stopped, Turn, on, call, deviceNext, after, feed}
 use Rattle.stream.proofs.Claims.{byte-same, again-same, clock-same}
 use Rattle.history.specs.Run.{run}
-use Rattle.traffic.specs.Runs.{NoStop, callsIn, UntilStop}
-use Rattle.traffic.specs.Whole.{nothing}
-use Rattle.traffic.specs.Breach.{Within, eventsIn, Breached, Unstarted, BreachBetween}
-use Rattle.traffic.proofs.Runs.{feed-valid, until-stop}
+use Rattle.traffic.specs.Runs.{NoStop, Within, eventsIn, callsIn, UntilStop}
+use Rattle.traffic.specs.Underway.{nothing}
+use Rattle.traffic.specs.Breach.{Breached, Unstarted, BreachBetween}
+use Rattle.traffic.proofs.Runs.{feed-valid, until-stop, within-inner}
 use Rattle.traffic.proofs.Follow.{Quiet, after-valid, stop-quiet, quiet-stop, moves}
 
 -- ---- between START and STOP
-
-within-inner : (ts : List Turn) → Within ts → Inner (eventsIn ts)
-within-inner [] h = tt
-within-inner (on start ∷ ts) h = absurd h
-within-inner (on (byte b) ∷ ts) h = within-inner ts h
-within-inner (on again ∷ ts) h = within-inner ts h
-within-inner (on clock ∷ ts) h = within-inner ts h
-within-inner (on stop ∷ ts) h = absurd h
-within-inner (call c ∷ ts) h = within-inner ts h
 
 within-no-stop : (ts : List Turn) → Within ts → NoStop ts
 within-no-stop [] h = tt

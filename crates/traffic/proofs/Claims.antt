@@ -11,11 +11,14 @@ use Rattle.traffic.specs.Claims.{StreamClaims}
 use Rattle.traffic.proofs.Breach.{breach-between}
 use Rattle.traffic.proofs.Buffers.{decodes, events-decode, calls-decode, power-decodes, length-stays, gives-same, left-alone, wrong-length, buffer-runs, always-ready}
 use Rattle.traffic.proofs.Energy.{stream-energy}
+use Rattle.traffic.proofs.EnergyExample.{reads-example}
 use Rattle.traffic.proofs.Fifteen.{fifteen-exactly}
+use Rattle.traffic.proofs.Nacks.{nack-exactly}
 use Rattle.traffic.proofs.Occurs.{phase-occurs, count-occurs, clocked-occurs, bytes-occur, reply-occurs}
 use Rattle.traffic.proofs.Runs.{no-fifteen, as-run, same-outcomes, until-stop}
 use Rattle.traffic.proofs.Traffic.{writes-between, reads-between, acks-between}
 use Rattle.traffic.proofs.Transactions.{over-buffer}
+use Rattle.traffic.proofs.Underway.{by-orders}
 use Rattle.traffic.proofs.Whole.{as-calls, transactions-alike, reaches}
 
 pub claims : StreamClaims
@@ -32,6 +35,7 @@ claims =
       nacked-second = nacked-second;
       acked-first = acked-first;
       acked-second = acked-second;
+      nack-exactly = nack-exactly;
       every-order = every-order;
       orders-lead = orders-lead;
       breach-lasts = breach-lasts;
@@ -54,12 +58,14 @@ claims =
       clocked-occurs = clocked-occurs;
       bytes-occur = bytes-occur;
       reply-occurs = reply-occurs;
+      by-orders = by-orders;
       as-calls = as-calls;
       transactions-alike = transactions-alike;
       reaches = reaches;
       as-run = as-run;
       same-outcomes = same-outcomes;
       stream-energy = stream-energy;
+      reads-example = reads-example;
       decodes = decodes;
       events-decode = events-decode;
       calls-decode = calls-decode;

@@ -42,7 +42,8 @@ use Rattle.stream.proofs.Prefix.{readSent}
 use Rattle.stream.proofs.Sent.{reply-suc}
 use Rattle.stream.proofs.Fold.{talk-byte, talked, Silent, fifteen-left}
 use Rattle.stream.proofs.Claims.{valid-both}
-use Rattle.traffic.specs.Whole.{Underway, nothing, bytes, turned, asked, goesOn, begun}
+use Rattle.traffic.specs.Underway.{Underway, nothing, bytes, turned, asked, goesOn}
+use Rattle.traffic.specs.Whole.{begun}
 use Rattle.traffic.specs.Energy.{Told, endsEnergy, atSecond, Pending, pending, fresh, noted, callPending, pendingAfter, streamLog, CopiesSent, TrueTold, StreamEnergy}
 use Rattle.traffic.proofs.Runs.{call-device}
 use Rattle.traffic.proofs.Follow.{Matches, maker, matched-valid, moves, stop-deaf, silent-on, Stands, matched, silent, begins}
@@ -317,7 +318,8 @@ mute-along : (ts : List Told) (s : State) (u : Underway) (g : Pending) → Mute 
 unfolding streamLog AtEachCopy
 mute-along [] s u g k = rw (mute-noted s g k) tt
 mute-along (t ∷ ts) s u g k =
-    mute-along ts (after s (t .turn)) (goesOn u (t .turn)) (pendingAfter s u g (t .turn) (t .copies)) (mute-on s u g (t .turn) (t .copies) k)
+    mute-along ts (after s (t .turn)) (goesOn u (t .turn)) (pendingAfter s u g (t .turn) (t .copies))
+    (mute-on s u g (t .turn) (t .copies) k)
 
 pub stream-energy : StreamEnergy
 unfolding StreamEnergy

@@ -74,5 +74,6 @@ unfolding FifteenExactly Fifteen
 fifteen-exactly s = record {
   begins = exactly s (beginAnswer s) (begins-not s) (λ n. streamed.fifteen s n .begins);
   stops = exactly s (stopped s .answer) (stops-not s) (λ n. ap (λ (r : Done). r .answer) (streamed.fifteen s n .fifteen));
-  calls = λ c. exactly s (called s c .done .answer) (λ v. calls-not s v c) (λ n. ap (λ (r : Done). r .answer) (streamed.fifteen s n .calls c));
+  calls = λ c. exactly s (called s c .done .answer) (λ v. calls-not s v c)
+      (λ n. ap (λ (r : Done). r .answer) (streamed.fifteen s n .calls c));
 }

@@ -1,5 +1,5 @@
--- What a run has led to, by what is under way: the part holds what came since START, and the reply is that of the device at the second address
--- byte.
+-- What a run has led to, by what is under way: the part holds what came since START, and the reply is that of the device at the second
+-- address byte.
 -- Assumes nothing.
 use Prim.Native.Nat.{ℕ}
 use mathlib.Core.Path.{_≡_, refl, ap}
@@ -17,7 +17,8 @@ use Rattle.stream.specs.Stream.{State, state, stateValid, byteTaken, partNext, 
 use Rattle.stream.proofs.Prefix.{readSent}
 use Rattle.stream.proofs.Fold.{Hears, hear-start, hear-byte, hear-again, hear-call, Talks, talk-start, talk-clock, talk-call, Silent, not-whole, deaf-event, deaf-call, whole}
 use Rattle.stream.proofs.Claims.{valid-both}
-use Rattle.traffic.specs.Whole.{Underway, nothing, bytes, turned, asked, goesOn, begun}
+use Rattle.traffic.specs.Underway.{Underway, nothing, bytes, turned, asked, goesOn}
+use Rattle.traffic.specs.Whole.{begun}
 use Rattle.traffic.proofs.Traffic.{all-stay}
 use Rattle.traffic.proofs.Runs.{feed-valid, idle-valid}
 

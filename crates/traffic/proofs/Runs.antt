@@ -9,7 +9,7 @@ use Rattle.laws.proofs.Branches.{either}
 use Rattle.bus.specs.declared.Part.{Part}
 use Rattle.bus.specs.Part.{partValid, heard, started, idle}
 use Rattle.bus.specs.Automaton.{Event, start, byte, again, clock, stop, partAfter}
-use Rattle.bus.specs.Orders.{writeOrder, readOrder}
+use Rattle.bus.specs.Orders.{writeOrder, readOrder, Inner}
 use Rattle.device.specs.declared.Device.{Device}
 use Rattle.device.specs.declared.Done.{Done}
 use Rattle.device.specs.Device.{powerOn, deviceValid}
@@ -21,7 +21,7 @@ use Rattle.stream.specs.Stream.{State, state, stateValid, ended, stopped, calle
 use Rattle.stream.specs.Claims.{Written, Read}
 use Rattle.stream.proofs.Fold.{whole, stays, feed-append, feed-kept}
 use Rattle.stream.proofs.Claims.{written, read-claim, events-append}
-use Rattle.traffic.specs.Runs.{NoFifteen, Item, aWrite, aRead, aCall, turnsOf, callsOf, AsRun, Outcome, givenAlong, wholeAlong, SameOutcomes, NoStop, callsIn, UntilStop}
+use Rattle.traffic.specs.Runs.{NoFifteen, Item, aWrite, aRead, aCall, turnsOf, callsOf, AsRun, Outcome, givenAlong, wholeAlong, SameOutcomes, NoStop, callsIn, UntilStop, Within, eventsIn}
 
 -- ---- no 15
 
@@ -170,3 +170,14 @@ start-drops s v = rw v
 pub until-stop : UntilStop
 unfolding UntilStop
 until-stop s ts v h = (by-calls ts s (part-of s v) h, start-drops (feed s ts) (feed-valid ts s v))
+
+-- ---- between START and STOP
+
+pub within-inner : (ts : List Turn) → Within ts → Inner (eventsIn ts)
+within-inner [] h = tt
+within-inner (on start ∷ ts) h = absurd h
+within-inner (on (byte b) ∷ ts) h = within-inner ts h
+within-inner (on again ∷ ts) h = within-inner ts h
+within-inner (on clock ∷ ts) h = within-inner ts h
+within-inner (on stop ∷ ts) h = absurd h
+within-inner (call c ∷ ts) h = within-inner ts h

@@ -32,7 +32,8 @@ fed-decode (e ∷ es) s long =
     fed-decode es (eventFed s e) (event-length s e long) ∙ ap (λ (x : State). feed x (events es)) (events-decode s e long)
 
 -- one event on
-sent-on : (e : Event) (es : List Event) (s : List ℕ) → length s ≡ size → sentBytes (eventFed s e) es ≡ sentIn (decode (eventFed s e)) (events es)
+sent-on : (e : Event) (es : List Event) (s : List ℕ) → length s ≡ size
+    → sentBytes (eventFed s e) es ≡ sentIn (decode (eventFed s e)) (events es)
     → sentBytes (eventFed s e) es ≡ sentIn (after (decode s) (on e)) (events es)
 unfolding EventsDecode
 sent-on e es s long h = h ∙ ap (λ (x : State). sentIn x (events es)) (events-decode s e long)

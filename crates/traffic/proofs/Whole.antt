@@ -17,7 +17,8 @@ use Rattle.stream.proofs.Fold.{heard-write, heard-turn, talked, Silent, deaf-st
 use Rattle.stream.proofs.Claims.{written, read-claim}
 use Rattle.history.specs.Run.{next, answer, run, reached}
 use Rattle.traffic.specs.Runs.{Reaches}
-use Rattle.traffic.specs.Whole.{Underway, nothing, bytes, turned, asked, goesOn, endedBy, callOf, wholeCalls, endedWith, answerAt, answersIn, answersOf, begun, AsCalls, Alike, TransactionsAlike}
+use Rattle.traffic.specs.Underway.{Underway, nothing, bytes, turned, asked, goesOn}
+use Rattle.traffic.specs.Whole.{endedBy, callOf, wholeCalls, endedWith, answerAt, answersIn, answersOf, begun, AsCalls, Alike, TransactionsAlike}
 use Rattle.traffic.proofs.Runs.{idle-valid}
 use Rattle.traffic.proofs.Follow.{quiet-stop, Matches, maker, stop-deaf, Stands, matched, silent, stands-on, begins}
 

@@ -1,33 +1,17 @@
--- A breach of order with other calls between the events (data sheet 17.8). Which events are in their places is said by crate bus, from the two
--- orders (Places.antt).
+-- A breach of order with other calls between the events (data sheet 17.8). Which events are in their places is said by crate bus, from the
+-- two orders (Places.antt).
 -- Assumes nothing.
 use Prim.Native.Nat.{ℕ}
 use mathlib.Core.Path.{_≡_}
 use mathlib.Core.Bool.{true, false}
-use mathlib.Core.List.{List, [], _∷_}
-use Rattle.bus.specs.Automaton.{Event, start, byte, again, clock, stop}
+use mathlib.Core.List.{List, _∷_}
+use Rattle.bus.specs.Automaton.{Event, start, byte, clock, stop}
 use Rattle.bus.specs.Places.{Begins, Ends, OutOfPlace}
 use Rattle.device.specs.declared.Device.{Device}
 use Rattle.device.specs.Step.{done}
-use Rattle.stream.specs.Stream.{State, stateValid, byteAck, byteSent, stopped, Turn, on, call, feed}
+use Rattle.stream.specs.Stream.{State, stateValid, byteAck, byteSent, stopped, Turn, on, feed}
 use Rattle.history.specs.Run.{run}
-use Rattle.traffic.specs.Runs.{callsIn}
-
--- neither START nor STOP
-abbrev pub Within : List Turn → Type 0
-Within [] = Unit
-Within (on start ∷ ts) = ⊥
-Within (on (byte b) ∷ ts) = Within ts
-Within (on again ∷ ts) = Within ts
-Within (on clock ∷ ts) = Within ts
-Within (on stop ∷ ts) = ⊥
-Within (call c ∷ ts) = Within ts
-
--- the events alone
-abbrev pub eventsIn : List Turn → List Event
-eventsIn [] = []
-eventsIn (on e ∷ ts) = e ∷ eventsIn ts
-eventsIn (call c ∷ ts) = eventsIn ts
+use Rattle.traffic.specs.Runs.{Within, eventsIn, callsIn}
 
 -- the state s after START and the events es, with calls between that alone have led to the device d
 pub record Breached (s : State) (es : List Event) (d : Device) : Type 0 where

@@ -1,5 +1,5 @@
--- Everything that is guaranteed of the streaming device, over single events and over runs: the table of contents of this folder and of crates bus
--- and stream, a line for each statement. proofs/Claims.antt proves the whole, so that none goes missing.
+-- Everything that is guaranteed of the streaming device, over single events and over runs: the table of contents of this folder and of
+-- crates bus and stream, a line for each statement. proofs/Claims.antt proves the whole, so that none goes missing.
 -- Assumes nothing.
 use Rattle.bus.specs.Ack.{AbsentExactly, NackedFirst, NackedSecond}
 use Rattle.bus.specs.Orders.{EveryOrder, OrdersLead, BreachLasts}
@@ -8,10 +8,13 @@ use Rattle.bus.specs.Fields.{ValidFields}
 use Rattle.stream.specs.Claims.{WriteByEleven, ReadByEleven, Written, Read, EveryEnd, AckedFirst, AckedSecond, Breach, NoStart, Dropped, Fifteen, PartStays}
 use Rattle.traffic.specs.Traffic.{WritesBetween, ReadsBetween, AcksBetween}
 use Rattle.traffic.specs.Breach.{BreachBetween}
+use Rattle.traffic.specs.Nacks.{NackExactly}
 use Rattle.traffic.specs.Fifteen.{FifteenExactly}
 use Rattle.traffic.specs.Runs.{NoFifteen, AsRun, SameOutcomes, Reaches, UntilStop}
+use Rattle.traffic.specs.Underway.{ByOrders}
 use Rattle.traffic.specs.Whole.{AsCalls, TransactionsAlike}
 use Rattle.traffic.specs.Energy.{StreamEnergy}
+use Rattle.traffic.specs.EnergyExample.{ReadsExample}
 use Rattle.traffic.specs.Occurs.{PhaseOccurs, CountOccurs, ClockedOccurs, BytesOccur, ReplyOccurs}
 use Rattle.traffic.specs.Buffers.{Decodes, EventsDecode, CallsDecode, PowerDecodes, LengthStays, GivesSame, LeftAlone, WrongLength, BufferRuns, AlwaysReady}
 use Rattle.traffic.specs.Transactions.{OverBuffer}
@@ -41,6 +44,8 @@ pub record StreamClaims : Type 0 where
   pub acked-first : AckedFirst
   -- and after a repeated START
   pub acked-second : AckedSecond
+  -- all in one: after START, with calls between or not, NACK goes exactly to these and to bytes out of their places (Nacks.antt)
+  pub nack-exactly : NackExactly
   -- ---- order (bus' Orders.antt and Places.antt, Breach.antt; data sheet 17.3, 17.8, 17.9)
   -- every list of events since START is a write, a read, the beginning of a read, or a breach of order
   pub every-order : EveryOrder
@@ -88,7 +93,9 @@ pub record StreamClaims : Type 0 where
   pub bytes-occur : BytesOccur
   -- and each byte of a reply
   pub reply-occurs : ReplyOccurs
-  -- ---- runs (Whole.antt, Runs.antt; data sheet 17.13)
+  -- ---- runs (Underway.antt, Whole.antt, Runs.antt; data sheet 17.13)
+  -- what is under way, told by the turns, is what the two orders say
+  pub by-orders : ByOrders
   -- every run of events and calls is a run of whole calls, with the same device and the same answers, and the turns tell which calls
   pub as-calls : AsCalls
   -- behind every run a transaction with nothing between leaves, answers and sends what the whole call does
@@ -102,6 +109,8 @@ pub record StreamClaims : Type 0 where
   -- ---- energy (Energy.antt; data sheet 15.7)
   -- the host's totals are those of the samples that the device took, in every run, with calls between the events of a read as well
   pub stream-energy : StreamEnergy
+  -- there are such runs: two reads, with a sample taken while each reply is on its way (EnergyExample.antt)
+  pub reads-example : ReadsExample
   -- ---- the lent buffer (Buffers.antt; data sheet 17.11 to 17.13)
   -- the bytes of a state hold it
   pub decodes : Decodes

@@ -1,7 +1,7 @@
--- The energy guarantee of the streaming device (data sheet 15.7): one claim about every list of events and calls from power-on, orderly or not,
--- with other calls between the events of a read as well, and every choice of copies of its energy replies. It is that of crate history, but for
--- the place of a reply among the samples: a reply is made at the second address byte and ended at STOP, so the samples between two replies are
--- those between their second address bytes.
+-- The energy guarantee of the streaming device (data sheet 15.7): one claim about every list of events and calls from power-on, orderly or
+-- not, with other calls between the events of a read as well, and every choice of copies of its energy replies. It is that of crate
+-- history, but for the place of a reply among the samples: a reply is made at the second address byte and ended at STOP, so the samples
+-- between two replies are those between their second address bytes.
 -- Assumes nothing.
 use Prim.Native.Nat.{ℕ}
 use mathlib.Core.Path.{_≡_}
@@ -16,7 +16,8 @@ use Rattle.bus.specs.Automaton.{start, byte, again, clock, stop}
 use Rattle.device.specs.Device.{Choice}
 use Rattle.device.specs.Step.{Call, write, read, measure, sample, alertResponse, tick}
 use Rattle.stream.specs.Stream.{State, byteSent, stopped, called, Turn, on, call, after}
-use Rattle.traffic.specs.Whole.{Underway, nothing, bytes, turned, asked, goesOn, begun}
+use Rattle.traffic.specs.Underway.{Underway, nothing, bytes, turned, asked, goesOn}
+use Rattle.traffic.specs.Whole.{begun}
 
 -- An event or a call, and the copies that the totalizer gets; they count only at a STOP that ends an energy reply.
 pub record Told : Type 0 where
@@ -63,7 +64,8 @@ callPending g (sample n) a = cond (eqb a 0) (pending (g .log) (n ∷ g .late) (g
 callPending g (alertResponse n) a = g
 callPending g tick a = g
 
--- At the second address byte the samples so far are noted. At STOP copies of what was sent go to the totalizer, before the samples taken since.
+-- At the second address byte the samples so far are noted. At STOP copies of what was sent go to the totalizer, before the samples taken
+-- since.
 unfoldable pub pendingAfter : State → Underway → Pending → Turn → List Copy → Pending
 pendingAfter s u g (on start) copies = g
 pendingAfter s u g (on (byte b)) copies = cond (atSecond u) (pending (noted (g .log) (g .late)) [] []) g

@@ -1,5 +1,6 @@
--- A transaction over a lent buffer, event by event, in the words of what is exported (crate buffer: `eventFed`, `eventGives`): at STOP the device
--- that the buffer holds, the answer and the bytes sent are the whole-transaction device's on the same bytes, however many (data sheet 17.5, 17.6).
+-- A transaction over a lent buffer, event by event, in the words of what is exported (crate buffer: `eventFed`, `eventGives`): at STOP the
+-- device that the buffer holds, the answer and the bytes sent are the whole-transaction device's on the same bytes, however many (data
+-- sheet 17.5, 17.6).
 -- Assumes nothing.
 use Prim.Native.Nat.{ℕ}
 use mathlib.Core.Path.{_≡_}
@@ -34,8 +35,8 @@ pub record Ended (s : List ℕ) (es : List Event) (r : Result) : Type 0 where
   pub answer : eventGives (fedEvents s (start ∷ es)) stop ≡ r .done .answer
   pub sent : sentBytes s (start ∷ es) ≡ r .reply
 
--- A buffer of the right length, whatever its bytes: the device that it holds may be one that gets 15. Of the numbers kept of a transaction under
--- way, which START drops, it holds none that no run has.
+-- A buffer of the right length; the device that it holds may be one that gets 15. Of the three numbers kept of a transaction it holds none
+-- that no run has.
 unfoldable pub OverBuffer : Type 0
 OverBuffer =
     (s : List ℕ) → length s ≡ size → partValid (partOf s) ≡ true

@@ -1,7 +1,7 @@
--- Which whole calls a run of the streaming device is, turn by turn (data sheet 17.13): a transaction is one call, at its STOP, another call is
--- itself where it comes, and a breach of order is none. The turns alone tell which calls these are.
+-- Which whole calls a run of the streaming device is, turn by turn (data sheet 17.13): a transaction is one call, at its STOP, another call
+-- is itself where it comes, and a breach of order is none. The turns alone tell which calls these are (Underway.antt).
 -- Assumes nothing.
-use Prim.Native.Nat.{ℕ, suc}
+use Prim.Native.Nat.{ℕ}
 use mathlib.Core.Path.{_≡_}
 use mathlib.Core.List.{List, [], _∷_, _++_}
 use Rattle.bus.specs.Part.{idle}
@@ -12,46 +12,7 @@ use Rattle.device.specs.Device.{Choice, powerOn}
 use Rattle.device.specs.Step.{Call, write, read, step}
 use Rattle.stream.specs.Stream.{State, state, stopped, called, Turn, on, call, after, feed, sentIn, events}
 use Rattle.history.specs.Run.{next, answer, reached}
-
--- ---- what is under way
-
--- what came since START, other calls aside
-pub data Underway : Type 0 where
-  -- no START, or a breach of order since
-  nothing : Underway
-  -- these bytes
-  bytes : List ℕ → Underway
-  -- these bytes and a repeated START
-  turned : List ℕ → Underway
-  -- a header, with its second address byte, and this number of clocked bytes
-  asked : List ℕ → ℕ → Underway
-
--- after a byte, a repeated START and a clocked byte
-abbrev pub withByte : Underway → ℕ → Underway
-withByte nothing b = nothing
-withByte (bytes bs) b = bytes (bs ++ b ∷ [])
-withByte (turned bs) b = asked (bs ++ b ∷ []) 0
-withByte (asked h n) b = nothing
-
-abbrev pub withAgain : Underway → Underway
-withAgain nothing = nothing
-withAgain (bytes bs) = turned bs
-withAgain (turned bs) = nothing
-withAgain (asked h n) = nothing
-
-abbrev pub withClock : Underway → Underway
-withClock nothing = nothing
-withClock (bytes bs) = nothing
-withClock (turned bs) = nothing
-withClock (asked h n) = asked h (suc n)
-
-abbrev pub goesOn : Underway → Turn → Underway
-goesOn u (on start) = bytes []
-goesOn u (on (byte b)) = withByte u b
-goesOn u (on again) = withAgain u
-goesOn u (on clock) = withClock u
-goesOn u (on stop) = nothing
-goesOn u (call c) = u
+use Rattle.traffic.specs.Underway.{Underway, nothing, bytes, turned, asked, goesOn}
 
 -- ---- the calls
 
