@@ -5,7 +5,7 @@ ghost use Rattle.command.specs.Table.{rowIn, entryOf, lookup};
 // A row: code, access, number of data bytes (a PEC byte not counted).
 pub struct Row(pub u8, pub u8, pub u8);
 
-// Access: none, where the table has no row; read, written, both.
+// Access: none, where the table has no row; read, written, both; or in a process call alone, whose data bytes are then those written in it.
 const NONE: u8 = 0;
 
 const R: u8 = 1;
@@ -14,7 +14,9 @@ const W: u8 = 2;
 
 const RW: u8 = 3;
 
-const TABLE: [Row; 37] = [
+const P: u8 = 4;
+
+const TABLE: [Row; 38] = [
     Row(0x00, RW, 1), // PAGE
     Row(0x01, RW, 1), // OPERATION
     Row(0x03, W, 0), // CLEAR_FAULTS
@@ -22,6 +24,7 @@ const TABLE: [Row; 37] = [
     Row(0x19, R, 1), // CAPABILITY
     Row(0x20, R, 1), // VOUT_MODE
     Row(0x21, RW, 2), // VOUT_COMMAND
+    Row(0x30, P, 3), // COEFFICIENTS
     Row(0x40, RW, 2), // VOUT_OV_FAULT_LIMIT
     Row(0x41, RW, 1), // VOUT_OV_FAULT_RESPONSE
     Row(0x42, RW, 2), // VOUT_OV_WARN_LIMIT
@@ -64,11 +67,11 @@ pub struct Entry {
 }
 
 // The row of a code, with no access where t has none.
-fn row_in(t: [Row; 37], code: u8) -> Row
+fn row_in(t: [Row; 38], code: u8) -> Row
     ensures { λ r. ⌜ r ≡ rowIn t code ⌝ }
 {
     let mut i: usize = 0;
-    while i < 37 {
+    while i < 38 {
         let row = t[i];
         if row.0 == code {
             return row;

@@ -12,10 +12,10 @@ use Rattle.command.proofs.table.row_in.Statement.{statement}
 use Rattle.command.proofs.table.row_in.Tie as tie
 
 abbrev Inv-loop : tie.InvT-loop
-Inv-loop code t i₀ i = (i ≤ 37) × (rowIn (drop i t) code ≡ rowIn t code)
+Inv-loop code t i₀ i = (i ≤ 38) × (rowIn (drop i t) code ≡ rowIn t code)
 
 abbrev μ-loop : tie.MeasureT-loop
-μ-loop code t i₀ i = 37 - i
+μ-loop code t i₀ i = 38 - i
 
 loop-holds : tie.Need-loop-holds Inv-loop μ-loop
 loop-holds c = (search needs, refl)
@@ -30,7 +30,7 @@ returns : tie.Need-returns Inv-loop μ-loop
 returns c =
     let h = c .before .before .before .before .loop in
     let a = c .before .before .before .before .before .args in
-    let long : length (a .t1) ≡ 37 = search (needs, length-mapped) in
+    let long : length (a .t1) ≡ 38 = search (needs, length-mapped) in
     found (0, 0, 0) (a .t1) (a .code) (h .i) (h .inv .1) (omega arith) (c .if1 .taken)
 
 add-i : tie.Need-add-i Inv-loop μ-loop
@@ -43,14 +43,14 @@ loop-again : tie.Need-loop-again Inv-loop μ-loop
 loop-again c =
     let h = c .before .before .before .before .loop in
     let a = c .before .before .before .before .before .args in
-    let long : length (a .t1) ≡ 37 = search (needs, length-mapped) in
+    let long : length (a .t1) ≡ 38 = search (needs, length-mapped) in
     (omega arith, passed (0, 0, 0) (a .t1) (a .code) (h .i) (h .inv .1) (omega arith) (c .if1 .left))
 
 returns-2 : tie.Need-returns-2 Inv-loop μ-loop
 returns-2 c =
     let h = c .before .loop in
     let a = c .before .before .args in
-    let long : length (a .t1) ≡ 37 = search (needs, length-mapped) in
+    let long : length (a .t1) ≡ 38 = search (needs, length-mapped) in
     at-end (0, 0, 0) (a .t1) (a .code) (h .i) (h .inv .1) (omega arith)
 
 pub row-in-spec : {M : Type 1} → statement M
