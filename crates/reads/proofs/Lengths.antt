@@ -13,7 +13,7 @@ use Rattle.account.specs.Account.{einBytes}
 use Rattle.command.specs.Meaning.{commandOf}
 use Rattle.command.specs.Agreement.{rowOf}
 use Rattle.command.specs.declared.meaning.Command.{Command}
-use Rattle.command.specs.declared.meaning.Command.the-variants.{SelectPage, Operation, ClearFaults, WriteProtect, Capability, VoutMode, VoutCommand, Limit, Response, StatusByte, StatusWord, Status, ReadEin, Reading, Revision, Absent}
+use Rattle.command.specs.declared.meaning.Command.the-variants.{SelectPage, Operation, ClearFaults, WriteProtect, Capability, VoutMode, VoutCommand, Limit, Response, StatusByte, StatusWord, Status, ReadEin, Reading, Revision, Absent, Coefficients}
 use Rattle.page.specs.declared.Page.{Page}
 use Rattle.unpaged.specs.declared.Unpaged.{Unpaged}
 use Rattle.reads.specs.Answers.{answersData}

@@ -9,7 +9,7 @@ use Rattle.pec.specs.Pec.{pec}
 use Rattle.account.specs.Account.{einBytes}
 use Rattle.command.specs.Meaning.{commandOf}
 use Rattle.command.specs.declared.meaning.Command.{Command}
-use Rattle.command.specs.declared.meaning.Command.the-variants.{SelectPage, Operation, ClearFaults, WriteProtect, Capability, VoutMode, VoutCommand, Limit, Response, StatusByte, StatusWord, Status, ReadEin, Reading, Revision, Absent}
+use Rattle.command.specs.declared.meaning.Command.the-variants.{SelectPage, Operation, ClearFaults, WriteProtect, Capability, VoutMode, VoutCommand, Limit, Response, StatusByte, StatusWord, Status, ReadEin, Reading, Revision, Absent, Coefficients}
 use Rattle.page.specs.declared.Page.{Page}
 use Rattle.page.specs.Status.{statusByte, statusHigh, reading}
 use Rattle.unpaged.specs.declared.Unpaged.{Unpaged}
