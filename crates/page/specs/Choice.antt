@@ -1,25 +1,19 @@
 -- What is chosen for a page at power-on: the formats of IOUT, VIN and temperature, and the fault limits of those that are DIRECT.
 -- Assumes nothing.
 use Prim.Native.Nat.{ℕ}
-use mathlib.Core.Bool.{Bool, cond, _&&_}
+use mathlib.Core.Bool.{Bool, cond}
 use mathlib.Core.List.{List, [], _∷_, map}
 use lib.ListN.{getD}
-use lib.Dec.{ltb}
-use Rattle.value.specs.declared.format.Format.{Format}
 use Rattle.value.specs.Format.{linearFormat}
-use Rattle.cause.specs.Causes.{VOUT, Cause, causes, startsWith}
+use Rattle.cause.specs.Causes.{Cause, causes, startsWith}
 use Rattle.page.specs.declared.Page.{Page}
 use Rattle.page.specs.declared.PageChoice.{PageChoice}
-use Rattle.page.specs.Page.{formatIn, powerOnPage, withLimits, withFormats}
+use Rattle.page.specs.Page.{isDirect, powerOnPage, withLimits, withFormats}
 use Rattle.page.specs.Settings.{formatsValid}
 
 -- all linear
 abbrev pub usualPage : PageChoice
 usualPage = record { formats = linearFormat ∷ linearFormat ∷ linearFormat ∷ []; limits = 0 ∷ 0 ∷ 0 ∷ 0 ∷ 0 ∷ 0 ∷ [] }
-
--- a quantity is in DIRECT form; VOUT never is
-abbrev pub isDirect : List Format → ℕ → Bool
-isDirect fs q = ltb VOUT q && formatIn fs q .direct
 
 -- the choices that power-on grants: under a DIRECT mark the coefficients are valid
 unfoldable pub pageGranted : PageChoice → Bool

@@ -1,12 +1,13 @@
 -- A page as power-on leaves it, and a page with one group of fields changed.
 -- Assumes nothing.
 use Prim.Native.Nat.{ℕ, _-_}
-use mathlib.Core.Bool.{Bool, false}
+use mathlib.Core.Bool.{Bool, false, _&&_}
 use mathlib.Core.List.{List, [], _∷_, map}
 use lib.ListN.{getD}
+use lib.Dec.{ltb}
 use Rattle.value.specs.declared.format.Format.{Format}
 use Rattle.value.specs.Format.{linearFormat}
-use Rattle.cause.specs.Causes.{powerOnLimits, startsWith, responses}
+use Rattle.cause.specs.Causes.{VOUT, powerOnLimits, startsWith, responses}
 use Rattle.page.specs.declared.Page.{Page}
 
 -- the machines of a page, none of them under way
@@ -32,6 +33,10 @@ powerOnPage = record {
 -- the format of a quantity from IOUT on, by its number
 abbrev pub formatIn : List Format → ℕ → Format
 formatIn fs q = getD fs (q - 1) linearFormat
+
+-- a quantity is in DIRECT form: VOUT never is, and a number past the quantities neither
+abbrev pub isDirect : List Format → ℕ → Bool
+isDirect fs q = ltb VOUT q && ltb q 4 && formatIn fs q .direct
 
 -- what stands past the end of a list of pages
 abbrev pub noPage : Page

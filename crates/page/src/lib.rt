@@ -8,6 +8,7 @@ ghost use Rattle.page.specs.Choice.{chosenLimits, chosenPage};
 use value::format::Format;
 
 pub mod causes; // causes.rt: which causes and warnings are present, and what they leave on the page
+pub mod formats; // formats.rt: the format of a quantity
 pub mod settings; // settings.rt: what a host writes, and which data are valid
 pub mod status; // status.rt: STATUS_BYTE, STATUS_WORD and whether the page supplies
 

@@ -9,12 +9,13 @@ use Rattle.pec.specs.Pec.{pec}
 use Rattle.account.specs.Account.{einBytes}
 use Rattle.command.specs.Meaning.{commandOf}
 use Rattle.command.specs.declared.meaning.Command.{Command}
-use Rattle.command.specs.declared.meaning.Command.the-variants.{SelectPage, Operation, ClearFaults, WriteProtect, Capability, VoutMode, VoutCommand, Limit, Response, StatusByte, StatusWord, Status, ReadEin, Reading, Revision, Absent, Coefficients}
+use Rattle.command.specs.declared.meaning.Command.the-variants.{SelectPage, Operation, ClearFaults, WriteProtect, Capability, VoutMode, VoutCommand, Limit, Response, StatusByte, StatusWord, Status, ReadEin, Reading, Revision, Absent}
 use Rattle.page.specs.declared.Page.{Page}
 use Rattle.page.specs.Status.{statusByte, statusHigh, reading}
 use Rattle.unpaged.specs.declared.Unpaged.{Unpaged}
 use Rattle.reads.specs.declared.request.Request.{Request}
 use Rattle.reads.specs.declared.request.Request.the-variants.{Refused, Plain}
+use Rattle.reads.specs.Coefficients.{formatOf, coefficientBytes}
 use Rattle.reads.specs.Answers.{answersData}
 
 -- low byte first (data sheet 2.4)
@@ -25,8 +26,7 @@ wordBytes w = w % 256 ∷ w / 256 ∷ []
 unfoldable pub statusRegister : Page → ℕ → ℕ → ℕ
 statusRegister p cml k = cond (eqb k 4) cml (getD (p .status) (k % 4) 0)
 
--- the data bytes of a command. CAPABILITY, VOUT_MODE and PMBUS_REVISION are constants (data sheet 3.3). The two cases that are not read have
--- none.
+-- the data bytes of a command. CAPABILITY, VOUT_MODE and PMBUS_REVISION are constants (data sheet 3.3). The cases that are not read have none.
 unfoldable pub readData : Unpaged → Page → Command → List ℕ
 readData u p SelectPage = u .page ∷ []
 readData u p Operation = p .operation ∷ []
@@ -44,11 +44,13 @@ readData u p ReadEin = einBytes (u .energy)
 readData u p (Reading q) = wordBytes (reading p q)
 readData u p Revision = 0x22 ∷ []
 readData u p Absent = []
+readData u p Command.Coefficients = []
 
 -- the data of what a read asks for
 unfoldable pub requestData : Unpaged → Page → Request → List ℕ
 requestData u p (Refused a) = []
 requestData u p (Plain code k) = readData u p (commandOf code)
+requestData u p (Request.Coefficients code direction) = coefficientBytes (formatOf p code)
 
 -- data, then the packet check over the header as it came and the data (data sheet 2.6)
 unfoldable pub checked : List ℕ → List ℕ → List ℕ
