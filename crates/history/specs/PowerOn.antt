@@ -1,5 +1,6 @@
--- What a host reads right after power-on, in the numbers of the command table (data sheet 1.4, 3.1), where nothing is chosen but the number of
--- pages: without the definitions of a page and of an unpaged part at power-on, so that a slip made there and in the code alike is refused.
+-- What a host reads right after power-on, in the numbers of the command table (data sheet 1.4, 3.1), where nothing is chosen but the number
+-- of pages: without the definitions of a page and of an unpaged part at power-on, so that a slip made there and in the code alike is
+-- refused.
 -- Assumes nothing.
 use Prim.Native.Nat.{ℕ, _<_}
 use mathlib.Core.Path.{_≡_}

@@ -1,5 +1,5 @@
--- The unpaged part after power-on (data sheet 1.4), in numbers and by the answer of an alert response: an alert that starts up is refused, also
--- where the code has the same slip.
+-- The unpaged part after power-on (data sheet 1.4), in numbers and by the answer of an alert response: an alert that starts up is refused,
+-- also where the code has the same slip.
 -- Assumes nothing.
 use mathlib.Core.Path.{_≡_}
 use mathlib.Core.List.{[], _∷_}
