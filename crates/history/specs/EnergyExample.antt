@@ -88,7 +88,8 @@ CopiesOccur =
 
 pub copies-occur : CopiesOccur
 unfolding
-    CopiesOccur turns TrueCopies CopiesOf AreCopies logAfter partOf logPart logCopies accountValid added sampled einBytes accountOf freshTotalizer
+    CopiesOccur
+    turns TrueCopies CopiesOf AreCopies logAfter partOf logPart logCopies accountValid added sampled einBytes accountOf freshTotalizer
     energyReading clockedFor replyCheck checkHolds accountAnswer replyAnswer nextEnergy nextSamples booked totalize totalizing.added pec
     pecFrom pecByte pecBit table
     entryOf lookup commandOf readingOf powerOnPage pageValid validOperation allValid causes powerOnUnpaged validPage validProtect unpagedValid

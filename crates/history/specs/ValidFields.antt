@@ -1,5 +1,5 @@
--- Answer 15 (data sheet 12.2) by fields and numbers: the lists of `page` and `unpaged`, and the number of pages. A field that is not in them
--- may hold anything.
+-- Answer 15 (data sheet 12.2) by fields and numbers: the lists of `page` and `unpaged`, and the number of pages. A field that is not in
+-- them may hold anything.
 -- Assumes nothing.
 use mathlib.Core.Path.{_≡_}
 use mathlib.Core.Bool.{not, _&&_}

@@ -1,5 +1,5 @@
--- Which pages are valid, field by field in numbers (data sheet 12.2): not by the table of causes, and not by the definitions that judge what a
--- host writes. A slip made alike in the code and in Settings.antt is refused.
+-- Which pages are valid, field by field in numbers (data sheet 12.2): not by the table of causes, and not by the definitions that judge what
+-- a host writes. A slip made alike in the code and in Settings.antt is refused.
 -- Assumes nothing.
 use Prim.Native.Nat.{ℕ}
 use mathlib.Core.Path.{_≡_}

@@ -19,8 +19,8 @@ use Rattle.reads.specs.Reply.{replyOf, alertStream}
 abbrev pub lowFirst : ℕ → List ℕ
 lowFirst w = w % 256 ∷ w / 256 ∷ []
 
--- of a page: a limit and a response by the number of its cause or warning (data sheet 6.1, 6.13), a status register by its place from 7Ah on,
--- and the latest word of a quantity, 0000h before any (data sheet 5.1, 5.7)
+-- of a page: a limit and a response by the number of its cause or warning (data sheet 6.1, 6.13), a status register by its place from 7Ah
+-- on, and the latest word of a quantity, 0000h before any (data sheet 5.1, 5.7)
 abbrev pub limitAt : Page → ℕ → List ℕ
 limitAt p n = lowFirst (getD (p .limits) n 0)
 

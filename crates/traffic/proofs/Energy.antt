@@ -28,7 +28,7 @@ use Rattle.bus.specs.Part.{partValid, heard}
 use Rattle.bus.specs.Automaton.{start, byte, again, clock, stop}
 use Rattle.device.specs.declared.Device.{Device}
 use Rattle.device.specs.declared.Done.{Done}
-use Rattle.device.specs.Device.{Choice, deviceValid, powerOn}
+use Rattle.device.specs.Device.{deviceValid, powerOn}
 use Rattle.device.specs.Step.{Call, write, read, measure, sample, alertResponse, tick, answerOf, answered, effect, sent, step}
 use Rattle.device.proofs.PowerOn.{powered}
 use Rattle.device.proofs.States.{answer-zero}

@@ -1,14 +1,14 @@
 -- Answer 15 exactly, by the fields.
 -- Assumes nothing.
 use Prim.Native.Nat.{ℕ}
-use mathlib.Core.Path.{_≡_, refl, ap, _∙_}
+use mathlib.Core.Path.{_≡_, ap, _∙_}
 use mathlib.Core.Logic.{_↔_}
-use mathlib.Core.Bool.{true, false, not, _&&_}
+use mathlib.Core.Bool.{true, false, not}
 use native.Mathlib.Omega.{arith}
 use lib.Dec.{eqb}
 use borrow.Author.Tests.{eqb-false}
 use Rattle.laws.proofs.Branches.{either}
-use Rattle.bus.specs.Part.{partValid, heard}
+use Rattle.bus.specs.Part.{heard}
 use Rattle.bus.specs.Fields.{ValidFields}
 use Rattle.bus.proofs.Fields.{valid-fields}
 use Rattle.device.specs.declared.Device.{Device}
@@ -22,7 +22,7 @@ use Rattle.stream.proofs.Claims as streamed
 use Rattle.history.specs.Run.{answer}
 use Rattle.history.specs.Valid as runs
 use Rattle.history.proofs.Valid as history
-use Rattle.traffic.specs.Fifteen.{Held, FifteenFor, FifteenExactly}
+use Rattle.traffic.specs.Fifteen.{Held, FifteenExactly}
 
 held-valid : (s : State) → Held s → stateValid s ≡ true
 unfolding ValidFields

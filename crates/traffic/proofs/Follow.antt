@@ -4,16 +4,16 @@
 use Prim.Native.Nat.{ℕ}
 use mathlib.Core.Path.{_≡_, refl, ap}
 use mathlib.Core.Bool.{true, false}
-use mathlib.Core.List.{List, [], _∷_}
+use mathlib.Core.List.{[], _∷_}
 use lib.Dec.{eqb}
 use Rattle.laws.proofs.Branches.{either, other-eqb}
-use Rattle.bus.specs.Part.{partValid, idle}
-use Rattle.bus.specs.Automaton.{Event, start, byte, again, clock, stop, afterByte, afterAgain, afterClock, byted, restarted, clocked, partAfter}
+use Rattle.bus.specs.Part.{idle}
+use Rattle.bus.specs.Automaton.{start, byte, again, clock, stop, afterByte, afterAgain, afterClock, byted, restarted, clocked, partAfter}
 use Rattle.device.specs.declared.Device.{Device}
 use Rattle.device.specs.declared.Done.{Done}
 use Rattle.device.specs.Device.{Choice, deviceValid, powerOn}
 use Rattle.device.specs.Step.{Call, done}
-use Rattle.stream.specs.Stream.{State, state, stateValid, byteTaken, partNext, ended, stopped, Turn, on, call, deviceNext, after, feed}
+use Rattle.stream.specs.Stream.{State, stateValid, byteTaken, partNext, ended, stopped, Turn, on, call, deviceNext, after, feed}
 use Rattle.stream.proofs.Prefix.{readSent}
 use Rattle.stream.proofs.Fold.{Hears, hear-start, hear-byte, hear-again, hear-call, Talks, talk-start, talk-clock, talk-call, Silent, not-whole, deaf-event, deaf-call, whole}
 use Rattle.stream.proofs.Claims.{valid-both}

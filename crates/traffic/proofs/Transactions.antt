@@ -2,10 +2,8 @@
 -- Assumes nothing.
 use Prim.Native.Nat.{ℕ}
 use mathlib.Core.Path.{_≡_, refl, ap, ap₂, _∙_}
-use mathlib.Core.Bool.{true}
 use mathlib.Core.List.{List, [], _∷_, _++_}
 use lib.ListN.{length}
-use Rattle.bus.specs.Part.{partValid}
 use Rattle.bus.specs.Automaton.{Event, start, byte, again, clock, stop}
 use Rattle.bus.specs.Orders.{writeOrder, readOrder}
 use Rattle.device.specs.declared.Done.{Done}
@@ -14,8 +12,8 @@ use Rattle.stream.specs.Stream.{State, stopped, on, deviceNext, after, feed, se
 use Rattle.stream.specs.Claims.{Written, Read}
 use Rattle.stream.proofs.Claims.{written, read-claim}
 use Rattle.layout.specs.Layout.{size}
-use Rattle.layout.specs.State.{decode, partOf, deviceOf}
-use Rattle.buffer.specs.Buffer.{eventFed, eventGives}
+use Rattle.layout.specs.State.{decode, deviceOf}
+use Rattle.buffer.specs.Buffer.{eventFed}
 use Rattle.traffic.specs.Buffers.{EventsDecode, GivesSame}
 use Rattle.traffic.specs.Transactions.{fedEvents, sentBytes, Ended, OverBuffer}
 use Rattle.traffic.proofs.Runs.{write-sends}

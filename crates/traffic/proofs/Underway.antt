@@ -11,7 +11,7 @@ use Rattle.bus.specs.Orders.{Inner}
 use Rattle.bus.specs.Places.{Begins, clocks, turn}
 use Rattle.bus.specs.Places as places
 use Rattle.stream.specs.Stream.{Turn, on, call}
-use Rattle.traffic.specs.Runs.{Within, eventsIn}
+use Rattle.traffic.specs.Runs.{eventsIn}
 use Rattle.traffic.specs.Underway.{Underway, nothing, bytes, turned, asked, withEvent, underway, Since, aWrite, aTurn, aRead, aBreach, ByOrders}
 use Rattle.traffic.proofs.Runs.{within-inner}
 

@@ -8,17 +8,17 @@ use Rattle.bus.specs.Part.{partValid}
 use Rattle.bus.specs.Automaton.{start, byte, again, clock, stop}
 use Rattle.device.specs.declared.Device.{Device}
 use Rattle.device.specs.declared.Done.{Done}
-use Rattle.device.specs.Device.{Choice, powerOn}
+use Rattle.device.specs.Device.{powerOn}
 use Rattle.device.specs.Step.{Call, write, read, step}
 use Rattle.stream.specs.Stream.{State, stopped, called, Turn, on, call, deviceNext, after, feed}
 use Rattle.stream.specs.Claims.{Written, Read}
 use Rattle.stream.proofs.Prefix.{readSent}
 use Rattle.stream.proofs.Fold.{heard-write, heard-turn, talked, Silent, deaf-stop, feed-kept}
 use Rattle.stream.proofs.Claims.{written, read-claim}
-use Rattle.history.specs.Run.{next, answer, run, reached}
+use Rattle.history.specs.Run.{next, answer, run}
 use Rattle.traffic.specs.Runs.{Reaches}
 use Rattle.traffic.specs.Underway.{Underway, nothing, bytes, turned, asked, goesOn}
-use Rattle.traffic.specs.Whole.{endedBy, callOf, wholeCalls, endedWith, answerAt, answersIn, answersOf, begun, AsCalls, Alike, TransactionsAlike}
+use Rattle.traffic.specs.Whole.{endedBy, callOf, wholeCalls, endedWith, answerAt, answersIn, answersOf, begun, AsCalls, TransactionsAlike}
 use Rattle.traffic.proofs.Runs.{idle-valid}
 use Rattle.traffic.proofs.Follow.{quiet-stop, Matches, maker, stop-deaf, Stands, matched, silent, stands-on, begins}
 
