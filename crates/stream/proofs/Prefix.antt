@@ -20,8 +20,8 @@ use Rattle.writes.specs.declared.asked.Write.{Write}
 use Rattle.writes.specs.Asked.{asked}
 use Rattle.writes.specs.Answers.{lengthAnswer, codeAnswer, addressedAnswer, writeAnswer}
 use Rattle.reads.specs.declared.request.Request.{Request}
-use Rattle.reads.specs.declared.request.Request.the-variants.{Refused, Plain}
-use Rattle.reads.specs.Request.{plainOf, addressedOf, requestOf, dueOf}
+use Rattle.reads.specs.declared.request.Request.the-variants.{Refused, Plain, Coefficients}
+use Rattle.reads.specs.Request.{plainOf, coefficientsOf, processOf, addressedOf, requestOf, dueOf}
 use Rattle.reads.specs.Answers.{dataAnswer, requestAnswer, readAnswer, answersData}
 use Rattle.reads.specs.Data.{readStream}
 use Rattle.reads.proofs.Requests.{data-any}
@@ -68,6 +68,11 @@ too-long n u s k code w h =
       ne-eqb (length s - 2 - k) 1 (λ e. omega arith),
     )
 
+-- a process call has no header of more than six bytes
+process-long : (h : List ℕ) (c : ℕ) → 6 < length h → processOf h c ≡ Refused 2
+unfolding processOf coefficientsOf
+process-long h c l = either (eqb c 0x30) (λ y. rw (y, ne-eqb (length h) 6 (λ e. omega arith))) (λ n. rw n)
+
 module _ (s : List ℕ) (long : 11 < length s) where
   cut : length (take 11 s) ≡ 11
   cut = length-take 11 s ∙ omega arith
@@ -91,7 +96,10 @@ module _ (s : List ℕ) (long : 11 < length s) where
   long-request : requestOf (take 11 s) ≡ requestOf s
   unfolding requestOf addressedOf
   long-request =
+      let c = cut in
       rw (
+        process-long (take 11 s) (getD (take 11 s) 1 0) (omega arith),
+        process-long s (getD s 1 0) (omega arith),
         cut,
         at s 0 (omega arith),
         ne-eqb (length s) 0 (λ e. omega arith),
@@ -136,6 +144,17 @@ unfolding readAnswer
 read-cut u p h n = rw (request-cut h)
 
 -- no request has more than seven data bytes
+process-due : (h : List ℕ) (c : ℕ) → dueOf (processOf h c) ≤ 7
+unfolding processOf coefficientsOf dueOf
+process-due h c =
+    either (eqb c 0x30)
+    (λ y. either (eqb (length h) 6)
+    (λ l. either (eqb (getD h 2 0) 2)
+    (λ t. either (eqb (getD h 5 0) 0xC1) (λ e. rw (y, l, t, e) (omega arith)) (λ e. rw (y, l, t, e) (omega arith)))
+    (λ t. rw (y, l, t) (omega arith)))
+    (λ l. rw (y, l) (omega arith)))
+    (λ n. rw n (omega arith))
+
 few-due : (h : List ℕ) → dueOf (requestOf h) ≤ 7
 unfolding requestOf addressedOf plainOf dueOf
 few-due h =
@@ -145,7 +164,7 @@ few-due h =
     (λ c. either (eqb (getD h 2 0) 0xC1)
     (λ d. either (lookup (getD h 1 0) .read) (λ e. rw (a, b, c, d, e) (at-most-seven (getD h 1 0))) (λ e. rw (a, b, c, d, e) (omega arith)))
     (λ d. rw (a, b, c, d) (omega arith)))
-    (λ c. rw (a, b, c) (omega arith)))
+    (λ c. rw (a, b, c) (process-due h (getD h 1 0))))
     (λ b. rw (a, b) (omega arith)))
 
 many-data : (refused : Bool) (k n : ℕ) → k ≤ 7 → dataAnswer refused k (min n 9) ≡ dataAnswer refused k n
@@ -166,6 +185,7 @@ many : (u : Unpaged) (p : Page) (r : Request) (n : ℕ) → dueOf r ≤ 7 → re
 unfolding requestAnswer dueOf
 many u p (Refused a) n few = refl
 many u p (Plain code k) n few = many-data _ k n few
+many u p (Coefficients code direction) n few = many-data _ 6 n few
 
 many-clocked : (u : Unpaged) (p : Page) (header : List ℕ) (n : ℕ) → readAnswer u p header (min n 9) ≡ readAnswer u p header n
 unfolding readAnswer
@@ -187,14 +207,15 @@ read-by-eleven d header n = rw (read-cut (d .unpaged) (pageShown d) header (min 
 abbrev pub readSent : Device → List ℕ → ℕ → List ℕ
 readSent d h n = sent d (read h n) (answered d (read h n))
 
--- nothing behind a header of more than three bytes
-long-silent : (d : Device) (h : List ℕ) (n : ℕ) → 3 < length h → readSent d h n ≡ []
+-- nothing behind a header of more than six bytes
+long-silent : (d : Device) (h : List ℕ) (n : ℕ) → 6 < length h → readSent d h n ≡ []
 unfolding sent answered answerOf readAnswer requestOf addressedOf requestAnswer readStream answersData
 long-silent d h n l =
     let some = ne-eqb (length h) 0 (λ e. omega arith) in
     let long = ne-eqb (length h) 3 (λ e. omega arith) in
+    let process = process-long h (getD h 1 0) l in
     either (deviceValid d)
-    (λ v. either (eqb (getD h 0 0) 0xC0) (λ o. rw (v, some, o, long)) (λ o. rw (v, some, o)))
+    (λ v. either (eqb (getD h 0 0) 0xC0) (λ o. rw (v, some, o, long, process)) (λ o. rw (v, some, o)))
     (λ v. rw v)
 
 pub sent-cut : (d : Device) (h : List ℕ) (n : ℕ) → readSent d (take 11 h) n ≡ readSent d h n
