@@ -7,7 +7,9 @@ use mathlib.Core.Bool.{Bool, true, false, cond, _&&_}
 use mathlib.Core.List.{List}
 use lib.ListN.{length, getD}
 use lib.Dec.{ltb, eqb}
-use Rattle.command.specs.Table.{lookup}
+use Rattle.laws.specs.Lists.{anyOf}
+use Rattle.command.specs.declared.table.Row.{Row}
+use Rattle.command.specs.Table.{table, lookup}
 use Rattle.bus.specs.declared.Part.{Part}
 use Rattle.bus.specs.Part.{heard, writing, turning}
 
@@ -42,16 +44,24 @@ ackIn phase s b = cond (eqb phase writing) (ackedFirst s b) (cond (eqb phase tur
 abbrev pub ackOf : Part → ℕ → Bool
 ackOf p b = ackIn (p .phase) (heard p) b
 
--- Who gets NACK, in words. The bytes s have a wrong address byte or a code that the table lacks;
+-- Who gets NACK, in words. A code is absent where no row of the table is the code's (data sheet 3.1), whatever the row says of it,
+unfoldable pub Absent : ℕ → Type 0
+Absent code = anyOf (λ (r : Row). eqb (r .0) code) table ≡ false
+
+-- and that is what the rules above take for one.
+unfoldable pub AbsentExactly : Type 0
+AbsentExactly = (code : ℕ) → (known code ≡ false) ↔ Absent code
+
+-- The bytes s have a wrong address byte or an absent code;
 pub data Wrong (s : List ℕ) : Type 0 where
   wrongAddress : 1 ≤ length s → (getD s 0 0 ≡ 0xC0 → ⊥) → Wrong s
-  absentCode : 2 ≤ length s → known (getD s 1 0) ≡ false → Wrong s
+  absentCode : 2 ≤ length s → Absent (getD s 1 0) → Wrong s
 
 -- before a repeated START: any byte after these, such a byte itself, and every byte past data and packet check,
 pub data Refused (s : List ℕ) (b : ℕ) : Type 0 where
   afterWrong : Wrong s → Refused s b
   otherAddress : length s ≡ 0 → (b ≡ 0xC0 → ⊥) → Refused s b
-  otherCode : length s ≡ 1 → known b ≡ false → Refused s b
+  otherCode : length s ≡ 1 → Absent b → Refused s b
   pastData : 2 ≤ length s → lookup (getD s 1 0) .length + 3 ≤ length s → Refused s b
 
 unfoldable pub NackedFirst : Type 0

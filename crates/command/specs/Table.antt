@@ -1,6 +1,6 @@
 -- The table of command codes: access and number of data bytes (data sheet 3.1).
 -- Assumes nothing.
-use Prim.Native.Nat.{ℕ}
+use Prim.Native.Nat.{ℕ, _/_, _%_}
 use mathlib.Core.Bool.{cond, not}
 use mathlib.Core.List.{List, [], _∷_}
 use lib.Bits.{bitAnd}
@@ -67,6 +67,10 @@ table =
 abbrev pub rowIn : List Row → ℕ → Row
 rowIn [] c = (c, NONE, 0)
 rowIn (e ∷ l) c = cond (eqb (e .0) c) e (rowIn l c)
+
+-- a row from one number of four hexadecimal digits: two of the code, one of the access, one of the data bytes
+abbrev pub told : ℕ → Row
+told x = (x / 256, x / 16 % 16, x % 16)
 
 -- what a row says; a code is known where it has an access, whatever the access is
 unfoldable pub entryOf : Row → Entry

@@ -1,6 +1,7 @@
 // The table of command codes, looked up by every transaction.
 ghost use mathlib.Core.Path.{_≡_};
-ghost use Rattle.command.specs.Table.{rowIn, entryOf, lookup};
+ghost use mathlib.Core.List.{map};
+ghost use Rattle.command.specs.Table.{told, rowIn, entryOf, lookup};
 
 // A row: code, access, number of data bytes (a PEC byte not counted).
 pub struct Row(pub u8, pub u8, pub u8);
@@ -14,44 +15,46 @@ const W: u8 = 2;
 
 const RW: u8 = 3;
 
-const TABLE: [Row; 37] = [
-    Row(0x00, RW, 1), // PAGE
-    Row(0x01, RW, 1), // OPERATION
-    Row(0x03, W, 0), // CLEAR_FAULTS
-    Row(0x10, RW, 1), // WRITE_PROTECT
-    Row(0x19, R, 1), // CAPABILITY
-    Row(0x20, R, 1), // VOUT_MODE
-    Row(0x21, RW, 2), // VOUT_COMMAND
-    Row(0x40, RW, 2), // VOUT_OV_FAULT_LIMIT
-    Row(0x41, RW, 1), // VOUT_OV_FAULT_RESPONSE
-    Row(0x42, RW, 2), // VOUT_OV_WARN_LIMIT
-    Row(0x46, RW, 2), // IOUT_OC_FAULT_LIMIT
-    Row(0x47, RW, 1), // IOUT_OC_FAULT_RESPONSE
-    Row(0x4A, RW, 2), // IOUT_OC_WARN_LIMIT
-    Row(0x4F, RW, 2), // OT_FAULT_LIMIT
-    Row(0x50, RW, 1), // OT_FAULT_RESPONSE
-    Row(0x51, RW, 2), // OT_WARN_LIMIT
-    Row(0x53, RW, 2), // UT_FAULT_LIMIT
-    Row(0x54, RW, 1), // UT_FAULT_RESPONSE
-    Row(0x55, RW, 2), // VIN_OV_FAULT_LIMIT
-    Row(0x56, RW, 1), // VIN_OV_FAULT_RESPONSE
-    Row(0x57, RW, 2), // VIN_OV_WARN_LIMIT
-    Row(0x58, RW, 2), // VIN_UV_WARN_LIMIT
-    Row(0x59, RW, 2), // VIN_UV_FAULT_LIMIT
-    Row(0x5A, RW, 1), // VIN_UV_FAULT_RESPONSE
-    Row(0x78, R, 1), // STATUS_BYTE
-    Row(0x79, R, 2), // STATUS_WORD
-    Row(0x7A, RW, 1), // STATUS_VOUT
-    Row(0x7B, RW, 1), // STATUS_IOUT
-    Row(0x7C, RW, 1), // STATUS_INPUT
-    Row(0x7D, RW, 1), // STATUS_TEMPERATURE
-    Row(0x7E, RW, 1), // STATUS_CML
-    Row(0x86, R, 7), // READ_EIN
-    Row(0x88, R, 2), // READ_VIN
-    Row(0x8B, R, 2), // READ_VOUT
-    Row(0x8C, R, 2), // READ_IOUT
-    Row(0x8D, R, 2), // READ_TEMPERATURE_1
-    Row(0x98, R, 1), // PMBUS_REVISION
+// Each row is one number of four hexadecimal digits: two of the code, one of the access, one of the number of data bytes. As numbers the
+// rows come down to a jump by the code; as structs LLVM laid the whole table out on the stack at every look-up.
+const TABLE: [u16; 37] = [
+    0x0031, // PAGE
+    0x0131, // OPERATION
+    0x0320, // CLEAR_FAULTS
+    0x1031, // WRITE_PROTECT
+    0x1911, // CAPABILITY
+    0x2011, // VOUT_MODE
+    0x2132, // VOUT_COMMAND
+    0x4032, // VOUT_OV_FAULT_LIMIT
+    0x4131, // VOUT_OV_FAULT_RESPONSE
+    0x4232, // VOUT_OV_WARN_LIMIT
+    0x4632, // IOUT_OC_FAULT_LIMIT
+    0x4731, // IOUT_OC_FAULT_RESPONSE
+    0x4A32, // IOUT_OC_WARN_LIMIT
+    0x4F32, // OT_FAULT_LIMIT
+    0x5031, // OT_FAULT_RESPONSE
+    0x5132, // OT_WARN_LIMIT
+    0x5332, // UT_FAULT_LIMIT
+    0x5431, // UT_FAULT_RESPONSE
+    0x5532, // VIN_OV_FAULT_LIMIT
+    0x5631, // VIN_OV_FAULT_RESPONSE
+    0x5732, // VIN_OV_WARN_LIMIT
+    0x5832, // VIN_UV_WARN_LIMIT
+    0x5932, // VIN_UV_FAULT_LIMIT
+    0x5A31, // VIN_UV_FAULT_RESPONSE
+    0x7811, // STATUS_BYTE
+    0x7912, // STATUS_WORD
+    0x7A31, // STATUS_VOUT
+    0x7B31, // STATUS_IOUT
+    0x7C31, // STATUS_INPUT
+    0x7D31, // STATUS_TEMPERATURE
+    0x7E31, // STATUS_CML
+    0x8617, // READ_EIN
+    0x8812, // READ_VIN
+    0x8B12, // READ_VOUT
+    0x8C12, // READ_IOUT
+    0x8D12, // READ_TEMPERATURE_1
+    0x9811, // PMBUS_REVISION
 ];
 
 // A row with its access told apart; known is false for a code that the table lacks. A row may be known and yet neither written
@@ -63,19 +66,26 @@ pub struct Entry {
     pub known: bool,
 }
 
-// The row of a code, with no access where t has none.
-fn row_in(t: [Row; 37], code: u8) -> Row
-    ensures { λ r. ⌜ r ≡ rowIn t code ⌝ }
+// The number of a code's row, with no access where t has none.
+fn row_in(t: [u16; 37], code: u8) -> u16
+    ensures { λ r. ⌜ told r ≡ rowIn (map told t) code ⌝ }
 {
     let mut i: usize = 0;
     while i < 37 {
         let row = t[i];
-        if row.0 == code {
+        if row / 256 == code as u16 {
             return row;
         }
         i += 1;
     }
-    Row(code, NONE, 0)
+    (code as u16) * 256
+}
+
+// The row that a number stands for.
+fn told(x: u16) -> Row
+    ensures { λ r. ⌜ r ≡ told x ⌝ }
+{
+    Row((x / 256) as u8, (x / 16 % 16) as u8, (x % 16) as u8)
 }
 
 fn entry_of(row: Row) -> Entry
@@ -94,6 +104,6 @@ pub fn lookup(code: u8) -> Entry
     ensures { λ r. ⌜ r ≡ lookup code ⌝ }
 {
     let t = TABLE;
-    let row = row_in(t, code);
+    let row = told(row_in(t, code));
     entry_of(row)
 }

@@ -105,7 +105,7 @@ settled-reading : (p : Page) (q : ℕ) → reading (settled p) q ≡ reading p q
 unfolding settled moved reading
 settled-reading p q = refl
 
-left-reading : (w : Write) (p : Page) (q : ℕ) → reading (pageLeft w p) q ≡ reading p q
+pub left-reading : (w : Write) (p : Page) (q : ℕ) → reading (pageLeft w p) q ≡ reading p q
 unfolding pageLeft changed cleared clearBits reading
 left-reading Write.Nothing p q = refl
 left-reading (Write.SelectPage x) p q = refl

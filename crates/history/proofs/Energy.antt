@@ -42,7 +42,7 @@ unfolding
 of-ein d z = rw z
 
 module _ (d : Device) (header : List ℕ) (n : ℕ) where
-  the-reply : isEnergyReply header n (step d (read header n)) ≡ true → step d (read header n) .reply ≡ energyReply 0x86 (energyOf d)
+  pub the-reply : isEnergyReply header n (step d (read header n)) ≡ true → step d (read header n) .reply ≡ energyReply 0x86 (energyOf d)
   unfolding answersData
   the-reply e =
       let a = and-eq-true-iff (eqb (codeOf header) 0x86 && eqb n 8) (eqb (answer d (read header n)) 0) .0 e in

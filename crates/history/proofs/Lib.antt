@@ -8,6 +8,7 @@ pub mod Latching
 pub mod AlikePages
 pub mod Tripping
 pub mod Retry
+pub mod Occurs
 pub mod Cml
 pub mod Valid
 pub mod Alert
@@ -17,7 +18,14 @@ pub mod Effects
 pub mod Warnings
 pub mod WarningReplies
 pub mod Fields
+pub mod Measured
 pub mod Stored
 pub mod StoredSteps
 pub mod ReadBack
+pub mod Presence
+pub mod Supplies
+pub mod ValidFields
+pub mod EveryPage
+pub mod PowerOn
+pub mod PowerOnReads
 pub mod Claims

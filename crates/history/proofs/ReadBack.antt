@@ -19,7 +19,9 @@ use Rattle.command.specs.Paged.{paged}
 use Rattle.page.specs.declared.Page.{Page}
 use Rattle.page.specs.Choice.{usualPage, chosenPage}
 use Rattle.page.specs.Status.{reading}
+use Rattle.page.specs.PowerOn.{PowerOnQuiet}
 use Rattle.page.proofs.Chosen.{chosen-reading}
+use Rattle.page.proofs.PowerOn.{power-on-quiet}
 use Rattle.unpaged.specs.declared.Unpaged.{Unpaged}
 use Rattle.unpaged.specs.Unpaged.{everyPage, actsOn, shown, powerOnUnpaged}
 use Rattle.writes.specs.Accepted.{codeOf}
@@ -39,13 +41,14 @@ use Rattle.history.specs.ReadBack.{latest, OnBus, AllOnBus, Reads, store
 use Rattle.history.proofs.Runs.{kept-in-runs, same-length}
 use Rattle.history.proofs.Valid.{valid-after, reached-valid}
 use Rattle.history.proofs.Effects.{page-after-write}
+use Rattle.history.proofs.Measured.{WordField, reading-field, mark-field}
 use Rattle.history.proofs.Stored.{PageField, DeviceField, Field, onPage, onDevice, Row, each-at, rows}
-use Rattle.history.proofs.StoredSteps.{AllSized, sized-after, page-steps, reading-steps, device-steps}
+use Rattle.history.proofs.StoredSteps.{AllSized, sized-after, page-steps, word-steps, device-steps}
 
 -- ---- a read of a code that may be read replies with its data
 
 -- a page is read where one is selected
-open-for : (u : Unpaged) (code i n : ℕ) → supported n ≡ true → i < n → (isUnpaged code || eqb (u .page) i) ≡ true → (everyPage u && paged code) ≡ false
+pub open-for : (u : Unpaged) (code i n : ℕ) → supported n ≡ true → i < n → (isUnpaged code || eqb (u .page) i) ≡ true → (everyPage u && paged code) ≡ false
 unfolding supported paged
 open-for u code i n ok small h =
     either (isUnpaged code)
@@ -56,7 +59,7 @@ open-for u code i n ok small h =
     rw (ne-eqb (u .page) 0xFF (λ e. omega arith)))
 
 -- and it is the page shown
-shows : (u : Unpaged) (i n : ℕ) → supported n ≡ true → i < n → u .page ≡ i → shown u ≡ i
+pub shows : (u : Unpaged) (i n : ℕ) → supported n ≡ true → i < n → u .page ≡ i → shown u ≡ i
 unfolding supported shown
 shows u i n ok small there =
     let few = ltb-true n 97 (and-eq-true-iff (ltb 0 n) (ltb n 97) .0 ok .1) in
@@ -83,7 +86,7 @@ module _ (d : Device) (v : deviceValid d ≡ true) (code : ℕ) (small : code < 
       (replies-follow (d .unpaged) (pageShown d) (0xC0 ∷ code ∷ 0xC1 ∷ []) (lookup code .length)
       (omega arith, (small, (omega arith, tt))) .plain answers refl)
 
-  reads-data : (bytes : List ℕ) → readData (d .unpaged) (pageShown d) (commandOf code) ≡ bytes → Reads d code bytes
+  pub reads-data : (bytes : List ℕ) → readData (d .unpaged) (pageShown d) (commandOf code) ≡ bytes → Reads d code bytes
   reads-data bytes e = record { accepted = read-answer; reply = read-reply ∙ e }
 
 -- ---- runs
@@ -124,7 +127,7 @@ module _ (x : Choice) (cs : List Call) (i : ℕ) (small : i < numberOf x) where
   abbrev d : Device
   d = reached x cs
 
-  stored-page : (code : ℕ) (f : PageField code) → AllOnBus cs
+  pub stored-page : (code : ℕ) (f : PageField code) → AllOnBus cs
       → f .get (pageOf d i) ≡ latest (stores i code) writtenData (powerOn x) cs (f .get (chosenPage (choiceAt x i)))
   stored-page code f b =
       on-bus-latest (stores i code) writtenData (λ (e : Device). f .get (pageOf e i)) (Kept n) (kept-after n)
@@ -139,11 +142,23 @@ module _ (x : Choice) (cs : List Call) (i : ℕ) (small : i < numberOf x) where
       (λ e c k. device-steps e i code f c) (powerOn x) cs tt
       ∙ rw (powered x .selected, powered x .protect)
 
-  measured-word : (q : ℕ) → q < 4 → reading (pageOf d i) q ≡ latest (measures i q) measuredWord (powerOn x) cs 0
-  measured-word q few =
-      all-latest (measures i q) measuredWord (λ (e : Device). reading (pageOf e i) q) (Kept n) (kept-after n)
-      (λ e c k. reading-steps e (k .sized) i (rw (k .whole) small) q few c) (powerOn x) cs (powered-kept x)
-      ∙ ap (latest (measures i q) measuredWord (powerOn x) cs) (ap (λ (p : Page). reading p q) (powered x .page i small) ∙ chosen-reading (choiceAt x i) q few)
+  measured-field : {A : Type 0} (q : ℕ) (f : WordField q A)
+      → f .get (pageOf d i) ≡ latest (measures i q) (λ c. f .given (measuredWord c)) (powerOn x) cs (f .get (chosenPage (choiceAt x i)))
+  measured-field q f =
+      all-latest (measures i q) (λ c. f .given (measuredWord c)) (λ (e : Device). f .get (pageOf e i)) (Kept n) (kept-after n)
+      (λ e c k. word-steps e (k .sized) i (rw (k .whole) small) q f c) (powerOn x) cs (powered-kept x)
+      ∙ ap (λ (p : Page). latest (measures i q) (λ c. f .given (measuredWord c)) (powerOn x) cs (f .get p)) (powered x .page i small)
+
+  module _ (q : ℕ) (few : q < 4) where
+    pub measured-word : reading (pageOf d i) q ≡ latest (measures i q) measuredWord (powerOn x) cs 0
+    measured-word =
+        measured-field q (reading-field q few) ∙ ap (latest (measures i q) measuredWord (powerOn x) cs) (chosen-reading (choiceAt x i) q few)
+
+    pub ever-measured : getD (pageOf d i .measured) q false ≡ latest (measures i q) (λ c. true) (powerOn x) cs false
+    unfolding PowerOnQuiet
+    ever-measured =
+        measured-field q (mark-field q few)
+        ∙ ap (latest (measures i q) (λ c. true) (powerOn x) cs) (power-on-quiet (choiceAt x i) .unmeasured q few)
 
 -- ---- the claims
 

@@ -1,44 +1,50 @@
--- The retry machines over runs: machine k of page i within the device, and the claim for one machine over the device's calls.
+-- The retry machines over runs: machine k of page i within the device, and the claims for one machine over the device's calls.
 -- Assumes nothing.
-use Prim.Native.Nat.{ℕ, zero, suc, _<_}
-use mathlib.Core.Path.{_≡_, refl, sym, ap, _∙_}
-use mathlib.Core.Bool.{Bool, true, false, cond, false≢true}
+use Prim.Native.Nat.{ℕ, zero, suc, _<_, _≤_}
+use mathlib.Core.Path.{_≡_, refl, sym, ap, _∙_, subst}
+use mathlib.Core.Bool.{Bool, true, false, cond, or-true, false≢true}
 use mathlib.Core.List.{List, [], _∷_}
 use native.Mathlib.Omega.{arith}
 use lib.ListN.{getD}
 use borrow.Author.Tests.{eq-eqb}
 use Rattle.laws.specs.Lists.{allOf}
 use Rattle.laws.proofs.Branches.{either}
+use Rattle.laws.proofs.Every.{agree}
+use Rattle.retry.specs.Response.{retries}
 use Rattle.retry.specs.Machine.{Machine, rest, waiting, held, trying, tripped, atCall, atTick, trips}
-use Rattle.retry.specs.Byte.{machineOf, byteAtCall, byteAtTick}
-use Rattle.retry.specs.Machines.{EachAlone}
+use Rattle.retry.specs.Byte.{machineOf, byteAtCall, byteAtTick, byteTrips}
+use Rattle.retry.specs.Machines.{anyTrips, EachAlone}
 use Rattle.retry.specs.Steps as steps
 use Rattle.retry.specs.Steps.{Step}
-use Rattle.retry.specs.Within.{byteAfter, stepsIn, timesOnIn, Within, LetsOnIn, LetsOnAtIn}
+use Rattle.retry.specs.Within.{byteAfter, stepsIn, timesOnIn, stateAfter, underWayIn, Within, LetsOnIn, LetsOnAtIn, TripsAtIn, AtMostIn}
 use Rattle.retry.proofs.Alone.{each-alone}
+use Rattle.retry.proofs.Side.{six-some}
 use Rattle.retry.proofs.Values.{machine-after}
-use Rattle.retry.proofs.Within.{lets-on-in, lets-on-at-in}
+use Rattle.retry.proofs.Within.{lets-on-in, lets-on-at-in, trips-at-in, at-most-in}
 use Rattle.cause.specs.Causes.{causes, warnings}
 use Rattle.page.specs.declared.Page.{Page}
-use Rattle.page.specs.Causes.{presentCauses, crossed, present, moved, settled, ticked}
+use Rattle.page.specs.Page.{powerOnPage}
+use Rattle.page.specs.Choice.{PageChoice, chosenPage}
+use Rattle.page.specs.Causes.{presentCauses, crossed, present, tripsAtOnce, moved, settled, ticked}
 use Rattle.page.proofs.Settled.{UpToDate}
 use Rattle.unpaged.specs.Unpaged.{cmlBits}
 use Rattle.device.specs.declared.Device.{Device}
-use Rattle.device.specs.Device.{numberOf, pageOf, deviceValid}
+use Rattle.device.specs.Device.{numberOf, choiceAt, powerOn, pageOf, deviceValid}
 use Rattle.device.specs.Step.{Call, write, read, measure, sample, alertResponse, tick, answerOf, answered, step}
+use Rattle.device.proofs.PowerOn.{powered, powered-valid}
 use Rattle.device.proofs.States.{answered-of}
 use Rattle.device.proofs.Refused.{device-stays}
-use Rattle.history.specs.Run.{next, answer, reached}
+use Rattle.history.specs.Run.{next, answer, run, reached}
 use Rattle.history.specs.Clearing.{acceptedWrite, clears}
 use Rattle.history.specs.Tripping.{untrips}
 use Rattle.history.specs.Valid.{ReachedValid}
 use Rattle.history.specs.Effects.{Effects, Leaves}
-use Rattle.history.specs.Retry.{rests, byteAt, responseAt, presentAt, startsAt, lastsThrough, timesLetOn, isTick, ticks, TickQuiet, StaysDown, LetsOnAgain, LetsOnByTicks}
+use Rattle.history.specs.Retry.{rests, byteAt, responseAt, presentAt, startsAt, lastsThrough, timesLetOn, isTick, ticks, underWay, TickQuiet, MachineMoves, StaysDown, LetsOnAgain, LetsOnByTicks, TripsByTicks, AtMost}
 use Rattle.history.proofs.Effects.{effects}
 use Rattle.history.proofs.Outcomes.{refused-next, by-answer}
 use Rattle.history.proofs.PageLeft.{PageLeft, kept, touched, timed}
 use Rattle.history.proofs.PageAfter.{timeOf, page-after}
-use Rattle.history.proofs.Runs.{Current, current, current-after}
+use Rattle.history.proofs.Runs.{Current, kept-in-runs, current, current-after}
 use Rattle.history.proofs.Valid.{valid-after, reached-valid}
 
 no-bit : cmlBits 0 ≡ 0
@@ -201,6 +207,27 @@ module _ (n i k : ℕ) (hi : i < n) (hk : k < 6) where
   same-times d [] = refl
   same-times d (c ∷ cs) = rw (same-times (next d c) cs)
 
+  same-later : (d : Device) (cs : List Call) → stateAfter next (byteAt i k) (responseAt i k) met d cs ≡ run d cs
+  unfolding stateAfter run
+  same-later d [] = refl
+  same-later d (c ∷ cs) = same-later (next d c) cs
+
+  same-way : (d : Device) (cs : List Call) → underWayIn next (byteAt i k) (responseAt i k) met d cs ≡ underWay i k d cs
+  unfolding underWayIn underWay
+  same-way d [] = refl
+  same-way d (c ∷ cs) = rw (met-rests d c, same-way (next d c) cs)
+
+  stepped : (r : ℕ) (m : Machine) (d : Device) (c : Call)
+      → steps.after r m (met d c)
+      ≡ cond (isTick c) (atTick r (presentAt i k (next d c)) m) (atCall r (presentAt i k (next d c)) (cond (rests d c i k) rest m))
+  unfolding stepOf steps.after
+  stepped r m d (write s) = refl
+  stepped r m d (read header n) = refl
+  stepped r m d (measure page quantity word) = refl
+  stepped r m d (sample n) = refl
+  stepped r m d (alertResponse n) = refl
+  stepped r m d tick = refl
+
 -- ---- the claims
 
 pub tick-quiet : TickQuiet
@@ -260,3 +287,54 @@ lets-on-by-ticks x cs c ds i k many hi hk first lasting =
     rw (← same-times n i k hi hk e ds, ← same-ticks n i k hi hk e ds)
     (lets-on-at-in next (byteAt i k) (responseAt i k) (met n i k hi hk) (Good n i k hi hk) (within n i k hi hk) d c ds g
     (same-start n i k hi hk d c ∙ first) (same-lasts n i k hi hk e ds ∙ lasting))
+
+pub machine-moves : MachineMoves
+unfolding MachineMoves ReachedValid
+machine-moves x cs c i k many hi hk =
+    let n = numberOf x in
+    let d = reached x cs in
+    let g : Good n i k hi hk d = record { current = current x cs; valid = reached-valid x cs many } in
+    let r = responseAt i k (next d c) in
+    ap machineOf (within n i k hi hk .moves d c g) ∙ machine-after r (byteAt i k d) (met n i k hi hk d c)
+    ∙ stepped n i k hi hk r (machineOf (byteAt i k d)) d c
+
+-- a machine that has tripped its page, on a page that is up to date
+down-trips : (p : Page) (k : ℕ) → k < 6 → UpToDate p → trips (machineOf (getD (p .machines) k 0)) ≡ true → p .tripped ≡ true
+unfolding anyTrips byteTrips
+down-trips p k h g e =
+    g .tripped
+    (rw (six-some (λ j. trips (machineOf (getD (p .machines) j 0))) k h e) (or-true (tripsAtOnce (presentCauses p) (p .responses))))
+
+pub trips-by-ticks : TripsByTicks
+unfolding TripsByTicks ReachedValid TripsAtIn
+trips-by-ticks x cs c ds i k many hi hk first lasting =
+    let n = numberOf x in
+    let d = reached x cs in
+    let e = next d c in
+    let g : Good n i k hi hk d = record { current = current x cs; valid = reached-valid x cs many } in
+    let w = within n i k hi hk in (
+      rw (← same-later n i k hi hk e ds, ← same-ticks n i k hi hk e ds)
+          (trips-at-in next (byteAt i k) (responseAt i k) (met n i k hi hk) (Good n i k hi hk) w d c ds g
+          (same-start n i k hi hk d c ∙ first) (same-lasts n i k hi hk e ds ∙ lasting)),
+      down-trips (pageOf (run e ds) i) k hk
+          (kept-in-runs (Current n) (current-after n) e ds (current-after n d c (g .current)) .page i hi),
+    )
+
+-- at power-on every machine is at rest
+rested : (c : PageChoice) (k : ℕ) → k < 6 → getD (chosenPage c .machines) k 0 ≡ 0
+unfolding chosenPage powerOnPage
+rested c k h = agree (λ k. getD (chosenPage c .machines) k 0) (λ k. 0) 6 tt k h
+
+pub at-most : AtMost
+unfolding AtMost AtMostIn run
+at-most x cs ds i k many hi hk =
+    let n = numberOf x in
+    let p = powerOn x in
+    let t = stateAfter next (byteAt i k) (responseAt i k) (met n i k hi hk) p cs in
+    let g : Good n i k hi hk p = record { current = current x []; valid = powered-valid x many } in
+    let z : byteAt i k p ≡ 0 = ap (λ (q : Page). getD (q .machines) k 0) (powered x .page i hi) ∙ rested (choiceAt x i) k hk in
+    subst (λ (d : Device). retries (responseAt i k d) ≤ 6 → underWay i k d ds ≡ true → timesLetOn i k d ds ≤ retries (responseAt i k d))
+    (same-later n i k hi hk p cs)
+    (λ few way. rw (← same-times n i k hi hk t ds)
+    (at-most-in next (byteAt i k) (responseAt i k) (met n i k hi hk) (Good n i k hi hk) (within n i k hi hk) p cs ds g z few
+    (same-way n i k hi hk t ds ∙ way)))

@@ -121,7 +121,7 @@ module _ (k : ℕ) (small : k < 11) where
   unfolding causes warnings
   limit-paged = agree-test (λ k. isUnpaged (limitOf k .limitCode)) (λ k. false) 11 tt k small
 
-  limit-field : PageField (limitOf k .limitCode)
+  pub limit-field : PageField (limitOf k .limitCode)
   unfolding readData settled moved ticked setMeasurement CausesAgree
   limit-field =
       let same : k % 11 ≡ k = omega arith in

@@ -10,9 +10,6 @@ use borrow.Author.Tests.{eq-eqb, ne-eqb}
 use Rattle.laws.specs.Lists.{Bytes}
 use Rattle.laws.proofs.Branches.{either}
 use Rattle.laws.proofs.Lists.{byte-lt}
-use Rattle.page.specs.declared.Page.{Page}
-use Rattle.page.specs.Causes.{moved, ticked}
-use Rattle.page.specs.Status.{reading}
 use Rattle.page.proofs.Chosen.{Sized}
 use Rattle.unpaged.specs.declared.Unpaged.{Unpaged}
 use Rattle.unpaged.specs.Unpaged.{actsOn, refused}
@@ -27,7 +24,8 @@ use Rattle.history.specs.ReadBack.{OnBus, stores, writtenData, measures,
 use Rattle.history.proofs.Outcomes.{done-next, refused-next, by-answer, write-next, ticked-page-at}
 use Rattle.history.proofs.Runs.{same-length}
 use Rattle.history.proofs.Effects.{measure-named, measured-page-at, written-page-at, written-page, written-protect, effects}
-use Rattle.history.proofs.Fields.{left-sized, measured-sized, ticked-sized, measured-reading}
+use Rattle.history.proofs.Fields.{left-sized, measured-sized, ticked-sized}
+use Rattle.history.proofs.Measured.{WordField}
 use Rattle.history.proofs.Stored.{PageField, DeviceField}
 
 module _ (d : Device) where
@@ -52,10 +50,6 @@ module _ (d : Device) where
   refused-measures (sample n) r i q = refl
   refused-measures (alertResponse n) r i q = refl
   refused-measures tick r i q = refl
-
-ticked-reading : (p : Page) (q : ℕ) → reading (ticked p) q ≡ reading p q
-unfolding ticked moved reading
-ticked-reading p q = refl
 
 -- a page of a run has lists of their lengths
 pub record AllSized (d : Device) : Type 0 where
@@ -112,32 +106,35 @@ module _ (d : Device) (g : AllSized d) (i : ℕ) (small : i < length (d .pages))
         by-answer d c (done-steps c b) (λ r. ap (f .get) (refused-page d c r i) ∙ rw (refused-stores d c r i code))
 
   -- ---- a quantity of page i after a call
-  module _ (q : ℕ) (few : q < 4) where
+  module _ {A : Type 0} (q : ℕ) (f : WordField q A) where
     measured-steps : (page quantity word : ℕ) → answer d (measure page quantity word) ≡ 0
-        → reading (pageOf (next d (measure page quantity word)) i) q
-        ≡ cond (measures i q d (measure page quantity word)) word (reading (pageOf d i) q)
+        → f .get (pageOf (next d (measure page quantity word)) i)
+        ≡ cond (measures i q d (measure page quantity word)) (f .given word) (f .get (pageOf d i))
     unfolding measures
     measured-steps page quantity word z =
-        ap (λ (p : Page). reading p q) (measured-page-at d page quantity word z i small)
+        ap (f .get) (measured-page-at d page quantity word z i small)
         ∙ either (eqb page i)
         (λ y. rw (y, eq-eqb (answer d (measure page quantity word)) 0 z)
-        (measured-reading (pageOf d i) (g .at i small) quantity word q (measure-named d page quantity word z .1) few))
+        (f .measure-sets (pageOf d i) (g .at i small) quantity word (measure-named d page quantity word z .1)))
         (λ n. rw (n, and-false (eqb (answer d (measure page quantity word)) 0)))
 
-    done-reading : (c : Call) → answer d c ≡ 0
-        → reading (pageOf (next d c) i) q ≡ cond (measures i q d c) (measuredWord c) (reading (pageOf d i) q)
-    unfolding measures measuredWord effect Effects Leaves
-    done-reading (write s) z = effects d (write s) z .readings i q
-    done-reading (read header n) z = ap (λ (e : Device). reading (pageOf e i) q) (done-next d (read header n) z)
-    done-reading (measure page quantity word) z = measured-steps page quantity word z
-    done-reading (sample n) z = ap (λ (e : Device). reading (pageOf e i) q) (done-next d (sample n) z)
-    done-reading (alertResponse n) z = ap (λ (e : Device). reading (pageOf e i) q) (done-next d (alertResponse n) z)
-    done-reading tick z = ap (λ (p : Page). reading p q) (ticked-page-at d z i small) ∙ ticked-reading (pageOf d i) q
+    unwritten : (s : List ℕ) → answer d (write s) ≡ 0 → f .get (pageOf (next d (write s)) i) ≡ f .get (pageOf d i)
+    unwritten s z =
+        ap (λ (e : Device). f .get (pageOf e i)) (write-next d s z) ∙ ap (f .get) (written-page-at d (asked s) i small)
+        ∙ either (actsOn (d .unpaged) i) (λ y. rw y (f .write-keeps (asked s) (pageOf d i))) (λ n. rw n)
 
-    pub reading-steps : (c : Call) → reading (pageOf (next d c) i) q ≡ cond (measures i q d c) (measuredWord c) (reading (pageOf d i) q)
-    reading-steps c =
-        by-answer d c (done-reading c)
-        (λ r. ap (λ (p : Page). reading p q) (refused-page d c r i) ∙ rw (refused-measures d c r i q))
+    done-word : (c : Call) → answer d c ≡ 0
+        → f .get (pageOf (next d c) i) ≡ cond (measures i q d c) (f .given (measuredWord c)) (f .get (pageOf d i))
+    unfolding measures measuredWord effect
+    done-word (write s) z = unwritten s z
+    done-word (read header n) z = ap (λ (e : Device). f .get (pageOf e i)) (done-next d (read header n) z)
+    done-word (measure page quantity word) z = measured-steps page quantity word z
+    done-word (sample n) z = ap (λ (e : Device). f .get (pageOf e i)) (done-next d (sample n) z)
+    done-word (alertResponse n) z = ap (λ (e : Device). f .get (pageOf e i)) (done-next d (alertResponse n) z)
+    done-word tick z = ap (f .get) (ticked-page-at d z i small) ∙ f .tick-keeps (pageOf d i)
+
+    pub word-steps : (c : Call) → f .get (pageOf (next d c) i) ≡ cond (measures i q d c) (f .given (measuredWord c)) (f .get (pageOf d i))
+    word-steps c = by-answer d c (done-word c) (λ r. ap (f .get) (refused-page d c r i) ∙ rw (refused-measures d c r i q))
 
 pub sized-after : (d : Device) (c : Call) → AllSized d → AllSized (next d c)
 sized-after d c g = record {

@@ -3,18 +3,34 @@
 -- Assumes nothing.
 use Rattle.writes.specs.Accepted.{Accepted}
 use Rattle.device.specs.Touches.{PagesStay}
+use Rattle.retry.specs.Claims.{RetryClaims}
 use Rattle.history.specs.Valid.{Fifteen, ReachedWhole, ReachedValid, NoFifteen}
 use Rattle.history.specs.Refusals.{Refused, Unchanged}
 use Rattle.history.specs.Accepted.{TakesEffect}
 use Rattle.history.specs.Clearing.{Falls, FallsCml}
 use Rattle.history.specs.Latching.{Latched, Latches, LatchesCml}
 use Rattle.history.specs.Tripping.{Tripped, StaysTripped, Trips}
-use Rattle.history.specs.Retry.{TickQuiet, StaysDown, LetsOnAgain, LetsOnByTicks}
+use Rattle.history.specs.Retry.{TickQuiet, MachineMoves, StaysDown, LetsOnAgain, LetsOnByTicks, TripsByTicks, AtMost}
+use Rattle.history.specs.Occurs.{MachineOccurs}
 use Rattle.history.specs.Warnings.{StayAlike, ReplyAlike, WarnLimitsAside, SupplyAlike}
 use Rattle.history.specs.Alert.{AlertRises, AlertCleared, AlertAnswered}
 use Rattle.history.specs.Energy.{TotalsTrusted}
 use Rattle.history.specs.Effects.{Effects}
 use Rattle.history.specs.ReadBack.{StoredCodes, WrittenBack, WriteThenRead, MeasuredBack}
+use Rattle.page.specs.Presence.{PresentExactly}
+use Rattle.page.specs.Supplies.{SuppliesExactly}
+use Rattle.history.specs.Presence.{PresentMeans}
+use Rattle.history.specs.Supplies.{HeldOff, SuppliesAsked}
+use Rattle.history.specs.PowerOn.{PowerOnQuiet}
+use Rattle.history.specs.ValidFields.{FifteenByField}
+use Rattle.history.specs.EveryPage.{AsSelected, PagedAgrees}
+use Rattle.history.specs.PowerOnReads.{PowerOnReads}
+use Rattle.history.specs.EnergyExample.{CopiesOccur}
+use Rattle.page.specs.ValidFields.{PageValidByField}
+use Rattle.unpaged.specs.ValidFields.{UnpagedValidByField}
+use Rattle.writes.specs.Shows.{PresentShows}
+use Rattle.reads.specs.Gives.{ReadsGive, AlertReplies}
+use Rattle.totalizer.specs.Applies.{TakesApply}
 
 pub record Claims : Type 0 where
   -- ---- which states get answer 15 (Valid.antt; data sheet 12)
@@ -77,6 +93,16 @@ pub record Claims : Type 0 where
   pub lets-on-again : LetsOnAgain
   -- and with any retries at the very ticks
   pub lets-on-by-ticks : LetsOnByTicks
+  -- one machine by itself: looks at the cause, ticks, tries, values (`retry`'s Claims.antt)
+  pub machine : RetryClaims
+  -- each machine of a run after a call, in one equation
+  pub machine-moves : MachineMoves
+  -- while its cause lasts a machine with 6 retries or fewer trips its page at the tick of the look after the last try
+  pub trips-by-ticks : TripsByTicks
+  -- whatever the cause does, from one rest to the next it lets its page on at most as many times as its retries say
+  pub at-most : AtMost
+  -- each of the sixty-five values of a machine's byte occurs in a run, on every page (Occurs.antt)
+  pub machine-occurs : MachineOccurs
   -- ---- warnings (Warnings.antt; data sheet 6.15)
   -- devices that differ in warn limits, warnings' bits and the alert answer alike and stay so
   pub stay-alike : StayAlike
@@ -96,3 +122,37 @@ pub record Claims : Type 0 where
   -- ---- energy (Energy.antt; data sheet 10)
   -- the host's totals are those of the samples that the device took, whichever replies are lost, repeated or damaged
   pub totals-trusted : TotalsTrusted
+  -- ---- presence and supplying, a second time (Presence.antt, Supplies.antt, PowerOn.antt, `page`'s; data sheet 6.2, 7.6, 1.4)
+  -- a cause or warning of a page is present exactly where its quantity was measured and lies strictly past its limit, by exact value
+  pub present-exactly : PresentExactly
+  -- so after every run, by the latest measurement and the latest limit written, or power-on's
+  pub present-means : PresentMeans
+  -- a page supplies exactly when it is on, not tripped, kept off by no present cause and held off by no machine
+  pub supplies-exactly : SuppliesExactly
+  -- STATUS_BYTE bit 6 and STATUS_WORD bit 11 are read as 0 exactly where the page supplies
+  pub held-off : HeldOff
+  -- and the firmware that asks whether a page supplies is told the same
+  pub supplies-asked : SuppliesAsked
+  -- after power-on nothing is present, no bit is 1, no page is tripped or supplies, and the alert is down
+  pub power-on-quiet : PowerOnQuiet
+  -- ---- the same in numbers: by field and by code (ValidFields.antt, EveryPage.antt, PowerOnReads.antt; data sheet 12.2, 3.1, 3.2, 3.8, 1.4)
+  -- answer 15 exactly by a list of fields, every other one aside; the lists of a page and of the unpaged part
+  pub fifteen-by-field : FifteenByField
+  pub page-valid-by-field : PageValidByField
+  pub unpaged-valid-by-field : UnpagedValidByField
+  -- what a read of each code gives, and the reply to an alert response (`reads`, Gives.antt)
+  pub reads-give : ReadsGive
+  pub alert-replies : AlertReplies
+  -- what every code reads right after power-on, and that the alert is down
+  pub power-on-reads : PowerOnReads
+  -- a write of a paged code leaves the bit of what is present at 1 (`writes`, Shows.antt)
+  pub present-shows : PresentShows
+  -- under PAGE FFh a write answers and leaves each page as with that page selected
+  pub as-selected : AsSelected
+  -- the codes without a page are those whose data do not depend on one
+  pub paged-agrees : PagedAgrees
+  -- ---- energy, by example and by answer (EnergyExample.antt, `totalizer`'s Applies.antt; data sheet 10, 11.5)
+  -- a run with copies of replies, one damaged, and its history: what the guarantee is about occurs
+  pub copies-occur : CopiesOccur
+  -- when each answer of the totalizer applies, by the bytes, and what it leaves
+  pub takes-apply : TakesApply

@@ -71,7 +71,10 @@ turns =
     ∷ energyRead (intact ∷ intact ∷ [])
     ∷ []
 
-pub copies-and-history :
+-- They are true copies, and the energy guarantee speaks of accepted, repeated and refused ones: it is not empty. The history has the latest
+-- first.
+unfoldable pub CopiesOccur : Type 0
+CopiesOccur =
     TrueCopies (powerOn (usual 8)) turns
     × (logAfter (powerOn (usual 8)) freshLog turns .history
     ≡ got intact (answered 0 (totalizer true false (account 21 0 3) 16 2))
@@ -82,7 +85,10 @@ pub copies-and-history :
     ∷ got (changed copy) (answered 21 freshTotalizer)
     ∷ took 5
     ∷ [])
+
+pub copies-occur : CopiesOccur
 unfolding
+    CopiesOccur
     turns TrueCopies CopiesOf AreCopies logAfter partOf logPart logCopies accountValid added sampled einBytes accountOf freshTotalizer
     energyReading clockedFor replyCheck checkHolds accountAnswer replyAnswer nextEnergy nextSamples booked totalize totalizing.added pec
     pecFrom pecByte pecBit table
@@ -90,4 +96,4 @@ unfolding
     refused shown plainOf addressedOf requestOf dataAnswer requestAnswer readAnswer answersData readData requestData checked readStream usual chosenPage
     chosenUnpaged powerOn supported deviceValid step
     answerOf calls.answered effect left sent
-copies-and-history = ((tt, (((is-changed, bytes), (tt, tt)), (tt, (tt, (tt, ((tt, (tt, tt)), tt)))))), refl)
+copies-occur = ((tt, (((is-changed, bytes), (tt, tt)), (tt, (tt, (tt, ((tt, (tt, tt)), tt)))))), refl)

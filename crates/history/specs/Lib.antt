@@ -6,10 +6,17 @@ pub mod Latching
 pub mod Warnings
 pub mod Tripping
 pub mod Retry
+pub mod Occurs
 pub mod Alert
 pub mod Accepted
 pub mod Energy
 pub mod EnergyExample
 pub mod Effects
 pub mod ReadBack
+pub mod Presence
+pub mod Supplies
+pub mod ValidFields
+pub mod EveryPage
+pub mod PowerOn
+pub mod PowerOnReads
 pub mod Claims

@@ -5,3 +5,7 @@ pub mod Ready
 pub mod Bits
 pub mod StatusWords
 pub mod Chosen
+pub mod Presence
+pub mod Supplies
+pub mod PowerOn
+pub mod ValidFields

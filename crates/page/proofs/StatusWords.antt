@@ -54,6 +54,13 @@ module _ (p : Page) (cml k : ℕ) where
 
 ruleset tidy = (and-true, and-false, or-false)
 
+-- the bits of a page that does not supply, whatever its registers hold
+pub off-low : (p : Page) (cml : ℕ) → bit (statusByte p cml) 6 ≡ not (supplies p)
+off-low p cml = low-bits p cml 6 ∙ simp tidy
+
+pub off-high : (p : Page) → bit (statusHigh p) 3 ≡ not (supplies p)
+off-high p = high-bits p 0 3 ∙ simp tidy
+
 pub status-words : StatusWords
 unfolding StatusWords
 status-words p cml b h =
@@ -65,7 +72,7 @@ status-words p cml b h =
     ap₂ _||_ (ap₂ _||_ (vout-others (vout p) v) (iout-others (iout p) i)) (input-others (input p) n) in (
       record {
         bit7 = low-bits p cml 7 ∙ simp tidy;
-        bit6 = low-bits p cml 6 ∙ simp tidy;
+        bit6 = off-low p cml;
         bit5 = low-bits p cml 5 ∙ simp tidy;
         bit4 = low-bits p cml 4 ∙ simp tidy;
         bit3 = low-bits p cml 3 ∙ simp tidy;
@@ -78,7 +85,7 @@ status-words p cml b h =
         bit6 = (simp tidy at (high-bits p cml 6)) ∙ any-bit (iout p) i;
         bit5 = (simp tidy at (high-bits p cml 5)) ∙ any-bit (input p) n;
         bit4 = high-bits p cml 4 ∙ simp tidy;
-        bit3 = high-bits p cml 3 ∙ simp tidy;
+        bit3 = off-high p;
         bit2 = high-bits p cml 2 ∙ simp tidy;
         bit1 = high-bits p cml 1 ∙ simp tidy;
         bit0 = high-bits p cml 0 ∙ simp tidy;

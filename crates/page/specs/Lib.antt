@@ -5,3 +5,7 @@ pub mod Settings
 pub mod Choice
 pub mod Status
 pub mod StatusWords
+pub mod Presence
+pub mod Supplies
+pub mod PowerOn
+pub mod ValidFields

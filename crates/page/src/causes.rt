@@ -32,7 +32,7 @@ fn below(measured: bool, word: u16, limit: u16) -> bool
     let order = linear11::compare_linear11(word, limit);
     match order {
         Order::Below => true,
-        Order::Equal => false,
+        Order::Equal => false, // not below it
         Order::Above => false,
     }
 }

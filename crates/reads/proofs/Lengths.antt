@@ -19,7 +19,7 @@ use Rattle.unpaged.specs.declared.Unpaged.{Unpaged}
 use Rattle.reads.specs.Answers.{answersData}
 use Rattle.reads.specs.declared.request.Request.{Request}
 use Rattle.reads.specs.declared.request.Request.the-variants.{Refused, Plain}
-use Rattle.reads.specs.Data.{readData, requestData, checked, readStream}
+use Rattle.reads.specs.Data.{readData, requestData, covered, checked, readStream}
 use Rattle.reads.specs.Reply.{alertStream}
 
 -- the data bytes of a command are as many as its row says, at most seven
@@ -55,7 +55,7 @@ module _ (u : Unpaged) (p : Page) where
       let l = requestData u p r in
       let short = request-length r in
       either (answersData answer)
-      (λ y. rw y (let e = length-append l (pec (header ++ l) ∷ []) in omega arith))
+      (λ y. rw y (let e = length-append l (pec (covered header ++ l) ∷ []) in omega arith))
       (λ n. rw n (omega arith))
 
 pub alert-length : (answer : ℕ) → length (alertStream answer) ≤ 8

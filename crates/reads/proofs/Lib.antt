@@ -4,3 +4,4 @@ pub mod Lengths
 pub mod Applies
 pub mod Replies
 pub mod Requests
+pub mod Gives

@@ -50,9 +50,13 @@ unfoldable pub requestData : Unpaged → Page → Request → List ℕ
 requestData u p (Refused a) = []
 requestData u p (Plain code k) = readData u p (commandOf code)
 
--- data, then the packet check over the header as it came and the data (data sheet 2.6)
+-- the part of a header that the packet check covers: all of it as it came, both address bytes included (data sheet 2.6)
+abbrev pub covered : List ℕ → List ℕ
+covered header = header
+
+-- data, then the packet check over header and data
 unfoldable pub checked : List ℕ → List ℕ → List ℕ
-checked header bytes = bytes ++ (pec (header ++ bytes) ∷ [])
+checked header bytes = bytes ++ (pec (covered header ++ bytes) ∷ [])
 
 -- what the device sends; a reply is the beginning of it, filled up with FFh (data sheet 2.9)
 unfoldable pub readStream : Unpaged → Page → ℕ → Request → List ℕ → List ℕ

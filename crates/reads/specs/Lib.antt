@@ -4,3 +4,4 @@ pub mod Reply
 pub mod Data
 pub mod Applies
 pub mod Replies
+pub mod Gives

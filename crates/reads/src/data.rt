@@ -4,10 +4,11 @@ ghost use mathlib.Core.List.{[], _∷_};
 ghost use Prim.Native.Nat.{_<_, _%_};
 ghost use lib.ListN.{getD};
 ghost use Rattle.account.specs.Account.{einBytes};
+ghost use Rattle.pec.specs.Pec.{pec};
 ghost use Rattle.command.specs.Meaning.{commandOf};
 ghost use Rattle.page.specs.Status.{statusByte, statusHigh, reading};
 ghost use Rattle.reads.specs.Reply.{stream, streamOf};
-ghost use Rattle.reads.specs.Data.{wordBytes, statusRegister, readData, requestData, checked, readStream};
+ghost use Rattle.reads.specs.Data.{wordBytes, statusRegister, readData, requestData, covered, checked, readStream};
 use super::answers;
 use super::reply::Stream;
 use super::request::Request;
@@ -148,14 +149,21 @@ fn request_data(u: Unpaged, p: Page, request: Request) -> Stream
     }
 }
 
-// The data followed by the packet check over the header, as it came, and the data.
+// The packet check over the header as it came.
+fn header_check(header: &[u8]) -> u8
+    ensures { λ r. ⌜ r ≡ pec (covered (now (header .entry))) ⌝ }
+{
+    pec::pec(header)
+}
+
+// The data followed by the packet check over the header and the data.
 fn with_check(header: &[u8], body: Stream) -> Stream
     requires { ⌜ (body ≡ stream (streamOf body)) × (body .length < 8) ⌝ }
     ensures { λ r. ⌜ r ≡ stream (checked (now (header .entry)) (streamOf body)) ⌝ }
 {
     let n = body.length as usize;
     let bytes = body.bytes;
-    let start = pec::pec(header);
+    let start = header_check(header);
     let check = pec::pec_from(start, &bytes[..n]);
     let mut f = body;
     f.bytes[n] = check;

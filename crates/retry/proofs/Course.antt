@@ -151,12 +151,17 @@ module _ (r : ℕ) where
   unfolding lookTick
   no-wait e = rw e (omega arith)
 
+  pub wait-on : action r ≡ 1 → waitsFirst r ≡ true
+  wait-on e = rw e
+
+  wait-off : action r ≡ 2 → waitsFirst r ≡ false
+  wait-off e = rw e
+
   course-start : (holdsAtOnce r || waitsFirst r) ≡ true → Course 0 0 (started r)
   unfolding started Course
   course-start h =
       either (holdsAtOnce r)
-      (λ e. let two = eqb-true (action r) 2 e in
-      rw (e, sym left-none) (course-hold 0 0 (sym (no-wait (ne-eqb (action r) 1 (omega arith)))) (λ k. omega arith)))
+      (λ e. rw (e, sym left-none) (course-hold 0 0 (sym (no-wait (wait-off (eqb-true (action r) 2 e)))) (λ k. omega arith)))
       (λ e. let f : waitsFirst r ≡ true = rw e at h in rw (e, f) (refl, delay-low r, zero-add (delay r) ∙ sym (first-look f)))
 
   rest-alone : (m : Machine) → atRest m ≡ true → m ≡ rest

@@ -6,3 +6,8 @@ pub mod Values
 pub mod Within
 pub mod Alone
 pub mod Side
+pub mod Table
+pub mod Looks
+pub mod AtMost
+pub mod Alike
+pub mod Claims

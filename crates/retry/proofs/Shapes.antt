@@ -3,6 +3,7 @@
 -- Assumes nothing.
 use Prim.Native.Nat.{ℕ, _-_, _<_}
 use mathlib.Core.Path.{_≡_, refl, sym}
+use mathlib.Core.Logic.{_⊎_, inl, inr, ⊎-elim}
 use mathlib.Core.Bool.{Bool, true, false, cond, false≢true}
 use mathlib.Core.List.{List, [], _∷_}
 use native.Mathlib.Nat.{suc-ne-zero}
@@ -23,6 +24,20 @@ Shape P (held n t) = P n × (n ≡ 0 → ⊥) × (0 < t) × (t < 8)
 Shape P (trying n) = P n × (n ≡ 0 → ⊥)
 Shape P tripped = P 0
 
+-- a look holds the page off or rests, whichever it does when
+same-inl : (x y : Machine) → (x ≡ x) ⊎ (x ≡ y)
+same-inl x y = inl refl
+
+same-inr : (x y : Machine) → (y ≡ x) ⊎ (y ≡ y)
+same-inr x y = inr refl
+
+ruleset either-way = (same-inl, same-inr)
+
+pub look-cases : (r : ℕ) (c : Bool) (n : ℕ) → (look r c n ≡ hold r n) ⊎ (look r c n ≡ rest)
+unfolding look
+look-cases r true n = search either-way
+look-cases r false n = search either-way
+
 module _ (P : ℕ → Type 0) (r : ℕ) (all : P (retries r)) (spend : (n : ℕ) → P n → (n ≡ 0 → ⊥) → P (lessOne n)) where
   shape-hold : (n : ℕ) → P n → Shape P (hold r n)
   unfolding Shape hold
@@ -30,9 +45,8 @@ module _ (P : ℕ → Type 0) (r : ℕ) (all : P (retries r)) (spend : (n : ℕ)
       either (eqb n 0) (λ e. rw e (rw (eqb-true n 0 e) at p)) (λ e. rw e (p, eqb-false n 0 e, delay-low r, delay-high r))
 
   shape-look : (c : Bool) (n : ℕ) → P n → Shape P (look r c n)
-  unfolding Shape look
-  shape-look true n p = shape-hold n p
-  shape-look false n p = tt
+  unfolding Shape
+  shape-look c n p = ⊎-elim (λ (e : look r c n ≡ hold r n). rw e (shape-hold n p)) (λ (e : look r c n ≡ rest). rw e tt) (look-cases r c n)
 
   shape-started : Shape P (started r)
   unfolding Shape started

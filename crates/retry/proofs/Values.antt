@@ -101,17 +101,17 @@ machine-after r b (call false c) = machine-call r c b
 -- ---- each value occurs
 
 -- after a call with the cause present, and a tick where no ticks are left, under this response
-responseTo : ℕ → ℕ
+unfoldable pub responseTo : ℕ → ℕ
 responseTo b = cond (eqb b 0) 0 (cond (ltb b 8) (0x40 + b) (0x80 + b % 64 + cond (eqb (b % 8) 0) 1 0))
 
-stepsTo : ℕ → List Step
+unfoldable pub stepsTo : ℕ → List Step
 stepsTo b = call false true ∷ cond (eqb (b % 8) 0) (tick true ∷ []) []
 
-reached : (b : ℕ) → b < 65 → byteOf (run (responseTo b) rest (stepsTo b)) ≡ b
+pub reached : (b : ℕ) → b < 65 → byteOf (run (responseTo b) rest (stepsTo b)) ≡ b
 unfolding responseTo stepsTo delay lessOne hold look started atCall atTick after run byteOf
 reached = agree (λ b. byteOf (run (responseTo b) rest (stepsTo b))) (λ b. b) 65 tt
 
-response-byte : (b : ℕ) → b < 65 → responseTo b < 256
+pub response-byte : (b : ℕ) → b < 65 → responseTo b < 256
 unfolding responseTo
 response-byte b h = ltb-true (responseTo b) 256 (agree-test (λ b. ltb (responseTo b) 256) (λ b. true) 65 tt b h)
 

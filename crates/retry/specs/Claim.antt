@@ -1,6 +1,6 @@
--- What holds of one machine from its start on, over every list of steps through which its cause lasts (data sheet 7.8).
+-- What holds of one machine over lists of steps (data sheet 7.8): from its start on while its cause lasts, and whatever the cause does.
 -- Assumes nothing.
-use Prim.Native.Nat.{ℕ, _+_, _*_, _-_, _≤_, _<_}
+use Prim.Native.Nat.{ℕ, _+_, _*_, _-_, _%_, _≤_, _<_}
 use mathlib.Core.Path.{_≡_}
 use mathlib.Core.Logic.{_↔_}
 use mathlib.Core.Bool.{Bool, true, false, cond, _||_}
@@ -10,7 +10,7 @@ use Rattle.laws.specs.Lists.{allOf, anyOf}
 use Rattle.retry.specs.Response.{waitsFirst, retries, delay}
 use Rattle.retry.specs.Machine.{Machine, rest, tripped, atCall, holds, trips}
 use Rattle.retry.specs.Byte.{byteOf, byteAtCall, byteAtTick, byteValid}
-use Rattle.retry.specs.Steps.{Step, causePresent, rests, after, run, starts, lasts, ticksIn, timesOn}
+use Rattle.retry.specs.Steps.{Step, causePresent, rests, after, run, starts, lasts, ticksIn, timesOn, underWay}
 
 -- With 1 to 6 retries the page is let on that many times at most, and exactly that many times once 56 ticks have passed.
 unfoldable pub LetsOn : Type 0
@@ -54,6 +54,17 @@ unfoldable pub Latest : Type 0
 Latest = ((response i : ℕ) → i ≤ 6 → onTick response i ≤ 54) × (onTick 0x77 6 ≡ 54)
 
 -- ---- whatever the cause does
+
+-- From one rest to the next it lets its page on at most as many times as its retries say, if they are 6 or fewer: after any steps that
+-- began at rest, through all steps on which it stays under way. A cause that goes and comes back between looks begins no new count.
+unfoldable pub AtMost : Type 0
+AtMost =
+    (response : ℕ) (before ss : List Step) → retries response ≤ 6 → underWay response (run response rest before) ss ≡ true
+    → timesOn response (run response rest before) ss ≤ retries response
+
+-- delay 0 counts as 1: a response byte with delay 0 does at every step as the byte after it, which has delay 1
+unfoldable pub ZeroAsOne : Type 0
+ZeroAsOne = (response : ℕ) (ss : List Step) → response % 8 ≡ 0 → run response rest ss ≡ run (response + 1) rest ss
 
 -- with 7 retries it never trips its page
 unfoldable pub ForEver : Type 0

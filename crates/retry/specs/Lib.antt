@@ -5,3 +5,6 @@ pub mod Machines
 pub mod Steps
 pub mod Claim
 pub mod Within
+pub mod Looks
+pub mod Table
+pub mod Claims

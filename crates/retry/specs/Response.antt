@@ -4,12 +4,9 @@ use Prim.Native.Nat.{ℕ, _/_, _%_}
 use mathlib.Core.Bool.{Bool, cond}
 use lib.Dec.{eqb}
 
+-- with action 00 the page goes on
 abbrev pub action : ℕ → ℕ
 action response = response / 64
-
--- action 00: the page goes on
-abbrev pub goesOn : ℕ → Bool
-goesOn response = eqb (action response) 0
 
 -- action 01: the page goes on for the delay, and is held off if the cause is present then
 abbrev pub waitsFirst : ℕ → Bool

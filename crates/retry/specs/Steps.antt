@@ -51,3 +51,8 @@ unfoldable pub timesOn : ℕ → Machine → List Step → ℕ
 timesOn response m [] = 0
 timesOn response m (s ∷ ss) =
     cond (letsOn m (after response m s)) (suc (timesOn response (after response m s) ss)) (timesOn response (after response m s) ss)
+
+-- the machine is under way through the steps: none puts it to rest, and after none is it at rest
+unfoldable pub underWay : ℕ → Machine → List Step → Bool
+underWay response m [] = true
+underWay response m (s ∷ ss) = (not (rests s) && not (atRest (after response m s))) && underWay response (after response m s) ss

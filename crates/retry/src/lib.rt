@@ -39,7 +39,7 @@ fn look(response: u8, present: bool, tries: u8) -> u8
     requires { ⌜ tries < 8 ⌝ }
     ensures { λ r. ⌜ r ≡ byteOf (look response present tries) ⌝ }
 {
-    if present {
+    if present { // else it has gone
         return hold(response, tries);
     }
     REST

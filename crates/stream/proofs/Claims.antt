@@ -107,22 +107,22 @@ read-claim s bs b n v =
           at (sent-between s v l (r .steady) [] tt refl b c (k .steady))),
     )
 
-valid-both : (t : State) → stateValid t ≡ true → (partValid (t .part) ≡ true) × (deviceValid (t .device) ≡ true)
+pub valid-both : (t : State) → stateValid t ≡ true → (partValid (t .part) ≡ true) × (deviceValid (t .device) ≡ true)
 unfolding stateValid
 valid-both t v = and-eq-true-iff (partValid (t .part)) (deviceValid (t .device)) .0 v
 
 -- ---- any list of events between START and STOP
 
 module _ (p q : Part) (same : p .phase ≡ q .phase) where
-  byte-same : (d : Device) (b : ℕ) → byteTaken d p b .phase ≡ partAfter q (byte b) .phase
+  pub byte-same : (d : Device) (b : ℕ) → byteTaken d p b .phase ≡ partAfter q (byte b) .phase
   unfolding byteTaken byted partAfter
   byte-same d b = either (eqb (p .phase) 2) (λ y. rw (y, same)) (λ n. rw (n, same))
 
-  again-same : restarted p .phase ≡ restarted q .phase
+  pub again-same : restarted p .phase ≡ restarted q .phase
   unfolding restarted
   again-same = rw same
 
-  clock-same : clocked p .phase ≡ clocked q .phase
+  pub clock-same : clocked p .phase ≡ clocked q .phase
   unfolding clocked
   clock-same = rw same
 
@@ -163,7 +163,7 @@ unfolding partNext deviceNext partAfter
 follow-start s v = follow s s (s .part) started start (record { phase = refl; valid = v; device = refl }) refl refl
 
 -- a state in which nothing orderly is under way
-disorder : (s : State) → stateValid s ≡ true → (k : ℕ) → s .part .phase ≡ k
+pub disorder : (s : State) → stateValid s ≡ true → (k : ℕ) → s .part .phase ≡ k
     → eqb k 1 ≡ false → eqb k 2 ≡ false → eqb k 3 ≡ false → Disorder s
 unfolding byteAck ackIn byteSent clockByte stopped ended
 disorder s v k e one two three = record {

@@ -88,7 +88,7 @@ module _ (s : State) (h : List ℕ) where
         valid = k .valid;
       })
 
-  hear-call : (n : ℕ) (c : Call) → Stays c → Hears n s h → Hears n (after s (call c)) h
+  pub hear-call : (n : ℕ) (c : Call) → Stays c → Hears n s h → Hears n (after s (call c)) h
   unfolding after called Stays
   hear-call n c still k =
       rw (k .kept)
@@ -100,20 +100,20 @@ module _ (s : State) (h : List ℕ) where
         valid = still (s .device) ∙ k .valid;
       })
 
-  heard-write : Hears 1 s h → stopped s ≡ step (s .device) (write h) .done
+  pub heard-write : Hears 1 s h → stopped s ≡ step (s .device) (write h) .done
   unfolding stopped ended WriteByEleven
   heard-write k =
       rw (whole s (k .kept) (k .valid), eq-eqb _ _ (k .phase-is), k .holds .same) (write-by-eleven (s .device) h)
 
-  heard-turn : Hears 2 s h → stopped s ≡ done (s .device) 2
+  pub heard-turn : Hears 2 s h → stopped s ≡ done (s .device) 2
   unfolding stopped ended
   heard-turn k = rw (whole s (k .kept) (k .valid), other-eqb _ 1 2 (k .phase-is) refl, other-eqb _ 3 2 (k .phase-is) refl)
 
-  heard-first : (b : ℕ) → Hears 1 s h → byteAck s b ≡ ackedFirst h b
+  pub heard-first : (b : ℕ) → Hears 1 s h → byteAck s b ≡ ackedFirst h b
   unfolding byteAck ackIn
   heard-first b k = rw (whole s (k .kept) (k .valid), eq-eqb _ _ (k .phase-is), k .holds .same) (first-cut h b)
 
-  heard-second : (b : ℕ) → Hears 2 s h → byteAck s b ≡ ackedSecond h b
+  pub heard-second : (b : ℕ) → Hears 2 s h → byteAck s b ≡ ackedSecond h b
   unfolding byteAck ackIn
   heard-second b k =
       rw (whole s (k .kept) (k .valid), other-eqb _ 1 2 (k .phase-is) refl, eq-eqb _ _ (k .phase-is), k .holds .same)
@@ -166,7 +166,7 @@ module _ (s : State) (h x : List ℕ) (k : ℕ) (w : Talks s h x k) where
         valid = w .valid;
       })
 
-  talk-call : (c : Call) → Stays c → Talks (after s (call c)) h x k
+  pub talk-call : (c : Call) → Stays c → Talks (after s (call c)) h x k
   unfolding after called Stays
   talk-call c still =
       rw (w .kept)
@@ -179,11 +179,11 @@ module _ (s : State) (h x : List ℕ) (k : ℕ) (w : Talks s h x k) where
         valid = still (s .device) ∙ w .valid;
       })
 
-  talk-byte : length x ≤ 8 → byteSent s ≡ getD x k 255
+  pub talk-byte : length x ≤ 8 → byteSent s ≡ getD x k 255
   unfolding byteSent clockByte
   talk-byte few = rw (whole s (w .kept) (w .valid), eq-eqb _ _ (w .phase-is), w .reply-is, w .so-far) (reply-at x k few)
 
-  talked : stopped s ≡ step (s .device) (read h k) .done
+  pub talked : stopped s ≡ step (s .device) (read h k) .done
   unfolding stopped ended ReadByEleven
   talked =
       rw (whole s (w .kept) (w .valid), other-eqb _ 1 3 (w .phase-is) refl, eq-eqb _ _ (w .phase-is), w .same, w .so-far)
@@ -204,15 +204,15 @@ unfolding step left answered cmlBits
 fifteen-left d c v = rw (v, device-stays d 15 refl)
 
 module _ (s : State) (w : Silent s) where
-  deaf-event : (e : Event) → deviceNext s e ≡ s .device → Silent (after s (on e))
+  pub deaf-event : (e : Event) → deviceNext s e ≡ s .device → Silent (after s (on e))
   unfolding after
   deaf-event e q = rw (not-whole s (w .invalid), q) (record { kept = w .kept; invalid = w .invalid })
 
-  deaf-call : (c : Call) → Stays c → Silent (after s (call c))
+  pub deaf-call : (c : Call) → Stays c → Silent (after s (call c))
   unfolding after called Stays
   deaf-call c still = rw (w .kept) (record { kept = w .kept; invalid = still (s .device) ∙ w .invalid })
 
-  deaf-stop : (c : Call) → stopped s ≡ step (s .device) c .done
+  pub deaf-stop : (c : Call) → stopped s ≡ step (s .device) c .done
   unfolding stopped
   deaf-stop c = rw (not-whole s (w .invalid)) (sym (fifteen-left (s .device) c (w .invalid)))
 

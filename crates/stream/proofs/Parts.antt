@@ -2,7 +2,7 @@
 -- Assumes nothing.
 use Prim.Native.Nat.{ℕ, suc, _+_, _<_, _≤_, min}
 use mathlib.Core.Path.{_≡_, refl, sym, ap, _∙_}
-use mathlib.Core.Bool.{true, _&&_, and-eq-true-iff}
+use mathlib.Core.Bool.{true}
 use mathlib.Core.List.{List, [], _∷_, _++_}
 use native.Mathlib.Omega.{arith}
 use lib.ListN.{length, take, length-append, length-set}
@@ -13,27 +13,13 @@ use Rattle.laws.proofs.Branches.{either}
 use Rattle.bus.specs.declared.Part.{Part}
 use Rattle.bus.specs.Part.{heard, part, partValid, idle, started, taking, clocking}
 use Rattle.bus.specs.Automaton.{Event, start, byte, again, clock, stop, afterByte, afterAgain, afterClock, byted, restarted, clocked, partAfter}
+use Rattle.bus.specs.Fields.{Fields}
+use Rattle.bus.proofs.Fields.{fields-of, valid-of}
 use Rattle.device.specs.declared.Device.{Device}
 use Rattle.stream.specs.Stream.{stateValid, byteTaken, partNext, on, call, after}
 use Rattle.stream.specs.Claims.{PartStays}
 
 -- ---- valid parts
-
-record Small (p : Part) : Type 0 where
-  phase : p .phase < 5
-  count : p .count < 12
-  clocked : p .clocked < 10
-
-small : (p : Part) → partValid p ≡ true → Small p
-unfolding partValid
-small p v =
-    let a = and-eq-true-iff (ltb (p .phase) 5 && ltb (p .count) 12) (ltb (p .clocked) 10) .0 v in
-    let b = and-eq-true-iff (ltb (p .phase) 5) (ltb (p .count) 12) .0 (a .0) in
-    record { phase = ltb-true _ _ (b .0); count = ltb-true _ _ (b .1); clocked = ltb-true _ _ (a .1) }
-
-valid-by : (p : Part) → Small p → partValid p ≡ true
-unfolding partValid
-valid-by p s = rw (lt-ltb (p .phase) 5 (s .phase), lt-ltb (p .count) 12 (s .count), lt-ltb (p .clocked) 10 (s .clocked))
 
 byte-phase : (k : ℕ) → afterByte k < 5
 unfolding afterByte
@@ -47,7 +33,7 @@ clock-phase : (k : ℕ) → afterClock k < 5
 unfolding afterClock
 clock-phase k = either (eqb k 3) (λ y. rw y (omega arith)) (λ n. rw n (omega arith))
 
-module _ (p : Part) (s : Small p) where
+module _ (p : Part) (s : Fields p) where
   taken-small : (b : ℕ) → (taking p b .count < 12) × (taking p b .clocked < 10)
   unfolding taking
   taken-small b =
@@ -69,20 +55,20 @@ module _ (p : Part) (s : Small p) where
 pub byted-valid : (p : Part) (b : ℕ) → partValid p ≡ true → partValid (byted p b) ≡ true
 unfolding byted
 byted-valid p b v =
-    let t = taken-small p (small p v) b in
-    valid-by (byted p b) (record { phase = byte-phase (p .phase); count = t .0; clocked = t .1 })
+    let t = taken-small p (fields-of p v) b in
+    valid-of (byted p b) (record { phase = byte-phase (p .phase); count = t .0; clocked = t .1 })
 
 pub restarted-valid : (p : Part) → partValid p ≡ true → partValid (restarted p) ≡ true
 unfolding restarted
 restarted-valid p v =
-    let t = small p v in
-    valid-by (restarted p) (record { phase = again-phase (p .phase); count = t .count; clocked = t .clocked })
+    let t = fields-of p v in
+    valid-of (restarted p) (record { phase = again-phase (p .phase); count = t .count; clocked = t .clocked })
 
 pub clocked-valid : (p : Part) → partValid p ≡ true → partValid (clocked p) ≡ true
 unfolding clocked
 clocked-valid p v =
-    let t = clocked-small p (small p v) in
-    valid-by (clocked p) (record { phase = clock-phase (p .phase); count = t .0; clocked = t .1 })
+    let t = clocked-small p (fields-of p v) in
+    valid-of (clocked p) (record { phase = clock-phase (p .phase); count = t .0; clocked = t .1 })
 
 pub taken-valid : (d : Device) (p : Part) (b : ℕ) → partValid p ≡ true → partValid (byteTaken d p b) ≡ true
 unfolding byteTaken partValid

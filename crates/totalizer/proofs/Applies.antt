@@ -2,16 +2,17 @@
 -- Assumes nothing.
 use Prim.Native.Nat.{ℕ, _+_, _*_, _^_}
 use mathlib.Core.Path.{_≡_, refl, sym, ap, subst, _∙_}
-use mathlib.Core.Bool.{Bool, true, false, cond, not, _&&_, _||_}
+use mathlib.Core.Bool.{Bool, true, false, cond, not, _&&_, _||_, false≢true}
 use mathlib.Core.List.{List, _∷_}
 use native.Mathlib.Omega.{arith}
 use lib.Dec.{ltb, eqb}
 use lib.ListN.{length, take, getD}
+use borrow.Author.Tests.{eqb-false}
 use Rattle.laws.proofs.Branches.{either}
 use Rattle.laws.specs.Lines.{lowest}
 use Rattle.pec.specs.Pec.{pec}
 use Rattle.account.specs.declared.Account.{Account}
-use Rattle.account.specs.Account.{accountValid, accountOf}
+use Rattle.account.specs.Account.{accountValid, energyReading, accountOf}
 use Rattle.replies.specs.Applies.{RepliesApply}
 use Rattle.replies.proofs.Applies.{replies-apply}
 use Rattle.totalizer.specs.declared.Totalizer.{Totalizer}
@@ -88,7 +89,7 @@ module _ (code : ℕ) (t : Totalizer) (s : List ℕ) where
   lines = replies-apply code 7 true true s
 
   lowest-applies : totalize code t s .answer ≡ lowest (takeLines code t s)
-  unfolding accountValid
+  unfolding accountValid accountOf energyReading nextEnergy nextSamples
   lowest-applies =
       answers
       ∙ rw (lines, booked-answer t (accountOf s))
@@ -155,8 +156,36 @@ module _ (code : ℕ) (t : Totalizer) (s : List ℕ) where
       (ltb 0x7FFF (getD s 1 0 + getD s 2 0 * 256)) (sym (lines code t s) ∙ z)))))
       (λ v. subst (Leaves t) (sym (invalid v)) (refused-leaves t 15 (λ z. omega arith)))
 
+-- ---- what an accepted reply leaves
+
+abbrev Books : Totalizer → Account → Taken → Type 0
+Books t a k =
+    (k .answer ≡ 0 → t .started ≡ false → k .totalizer ≡ totalizer true false a 0 0)
+    × (k .answer ≡ 0 → t .started ≡ true → k .totalizer ≡ totalizer true false a (nextEnergy t a) (nextSamples t a))
+
+refused-books : (t u : Totalizer) (a : Account) (n : ℕ) → (n ≡ 0 → ⊥) → Books t a (answered n u)
+refused-books t u a n h = (λ e s. absurd (h e), λ e s. absurd (h e))
+
+booked-books : (t : Totalizer) (a : Account) → Books t a (booked t a)
+booked-books t a =
+    cases t a (Books t a)
+    (λ c. refused-books t t a 24 (λ z. omega arith))
+    (λ o n. (λ e s. refl, λ e s. absurd (false≢true (sym n ∙ s))))
+    (λ o y r. (λ e s. absurd (false≢true (sym s ∙ y)), λ e s. ap (λ (c : Bool). totalizer true c a (nextEnergy t a) (nextSamples t a)) o))
+    (λ o y r. refused-books t (shut t) a 24 (λ z. omega arith))
+
+taken-books : (code : ℕ) (t : Totalizer) (s : List ℕ) → Books t (accountOf s) (totalize code t s)
+taken-books code t s =
+    let a = accountOf s in
+    either (accountValid (t .last))
+    (λ v. either (eqb (energyAnswer code s) 0)
+    (λ e. subst (Books t a) (sym (passed code t s v e)) (booked-books t a))
+    (λ e. subst (Books t a) (sym (failed code t s v e)) (refused-books t t a (energyAnswer code s) (eqb-false (energyAnswer code s) 0 e))))
+    (λ v. subst (Books t a) (sym (invalid code t s v)) (refused-books t t a 15 (λ z. omega arith)))
+
 pub takes-apply : TakesApply
-unfolding TakesApply
+unfolding TakesApply accountOf energyReading nextEnergy nextSamples
 takes-apply code t s =
     let k = taken-leaves code t s in
-    record { answer = lowest-applies code t s; full = k .0; refused = k .1 }
+    let b = taken-books code t s in
+    record { answer = lowest-applies code t s; full = k .0; refused = k .1; first = b .0; later = b .1 }

@@ -188,7 +188,7 @@ calls-decode s c long =
     (λ v. rw (ready-is s long, v) (call-made s long c ∙ ap (λ (r : Result). state (x .part) (r .done .device)) (sym (called-step x c v))))
     (λ n. rw (ready-is s long, n) (ap (λ (r : Result). state (x .part) (r .done .device)) (sym (call-stays x c n))))
 
-event-length : (s : List ℕ) (e : Event) → length s ≡ size → length (eventFed s e) ≡ size
+pub event-length : (s : List ℕ) (e : Event) → length s ≡ size → length (eventFed s e) ≡ size
 unfolding eventFed
 event-length s e long = either (ready s) (λ y. rw y (taken-long s long e)) (λ n. rw n long)
 

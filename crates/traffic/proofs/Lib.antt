@@ -1,6 +1,16 @@
 pub mod Traffic
 pub mod Runs
+pub mod Underway
+pub mod Follow
+pub mod Whole
+pub mod Breach
+pub mod Nacks
+pub mod Fifteen
+pub mod Energy
+pub mod EnergyExample
 pub mod StoredDevice
 pub mod Fitting
 pub mod Buffers
 pub mod Occurs
+pub mod Transactions
+pub mod Claims

@@ -2,7 +2,6 @@
 -- Assumes nothing.
 use Prim.Native.Nat.{ℕ}
 use mathlib.Core.Path.{_≡_, refl, ap, ap₂, _∙_}
-use mathlib.Core.Logic.{_⊎_, inl, inr, ⊎-elim}
 use mathlib.Core.Bool.{true, and-eq-true-iff}
 use mathlib.Core.List.{List, [], _∷_, _++_}
 use lib.Dec.{eqb}
@@ -10,7 +9,7 @@ use Rattle.laws.proofs.Branches.{either}
 use Rattle.bus.specs.declared.Part.{Part}
 use Rattle.bus.specs.Part.{partValid, heard, started, idle}
 use Rattle.bus.specs.Automaton.{Event, start, byte, again, clock, stop, partAfter}
-use Rattle.bus.specs.Orders.{writeOrder, readOrder}
+use Rattle.bus.specs.Orders.{writeOrder, readOrder, Inner}
 use Rattle.device.specs.declared.Device.{Device}
 use Rattle.device.specs.declared.Done.{Done}
 use Rattle.device.specs.Device.{powerOn, deviceValid}
@@ -22,7 +21,7 @@ use Rattle.stream.specs.Stream.{State, state, stateValid, ended, stopped, calle
 use Rattle.stream.specs.Claims.{Written, Read}
 use Rattle.stream.proofs.Fold.{whole, stays, feed-append, feed-kept}
 use Rattle.stream.proofs.Claims.{written, read-claim, events-append}
-use Rattle.traffic.specs.Runs.{NoFifteen, Item, aWrite, aRead, aCall, turnsOf, callsOf, AsRun, Outcome, givenAlong, wholeAlong, SameOutcomes, Reaches, NoStop, callsIn, UntilStop}
+use Rattle.traffic.specs.Runs.{NoFifteen, Item, aWrite, aRead, aCall, turnsOf, callsOf, AsRun, Outcome, givenAlong, wholeAlong, SameOutcomes, NoStop, callsIn, UntilStop, Within, eventsIn}
 
 -- ---- no 15
 
@@ -57,7 +56,7 @@ unfolding feed
 feed-valid [] s v = v
 feed-valid (t ∷ ts) s v = feed-valid ts (after s t) (whole (after s t) (stays s t (part-of s v)) (device-stays s t v))
 
-idle-valid : partValid idle ≡ true
+pub idle-valid : partValid idle ≡ true
 unfolding partValid idle
 idle-valid = refl
 
@@ -119,7 +118,7 @@ as-run d l = items l (state idle d) idle-valid
 -- ---- what each item gives
 
 -- a write sends nothing
-write-sends : (bs : List ℕ) (s : State) → sentIn s (events (writeOrder bs)) ≡ []
+pub write-sends : (bs : List ℕ) (s : State) → sentIn s (events (writeOrder bs)) ≡ []
 unfolding sentIn
 write-sends [] s = refl
 write-sends (b ∷ bs) s = write-sends bs (after s (on (byte b)))
@@ -151,41 +150,6 @@ pub same-outcomes : SameOutcomes
 unfolding SameOutcomes
 same-outcomes d l = alike l (state idle d) idle-valid
 
--- ---- every run
-
--- what a turn makes of the device: nothing, or what one whole call makes of it
-Moves : State → Turn → Type 0
-Moves s t = (after s t .device ≡ s .device) ⊎ ((c : Call) × (after s t .device ≡ next (s .device) c))
-
-ended-moves : (d : Device) (p : Part) → (ended d p .device ≡ d) ⊎ ((c : Call) × (ended d p .device ≡ next d c))
-unfolding ended
-ended-moves d p =
-    either (eqb (p .phase) 1) (λ y. inr (write (heard p), rw y))
-    (λ n. either (eqb (p .phase) 3) (λ y. inr (read (heard p) (p .clocked), rw (n, y))) (λ m. inl (rw (n, m))))
-
-moves : (s : State) (t : Turn) → Moves s t
-unfolding Moves after deviceNext stopped called
-moves s (on start) = inl refl
-moves s (on (byte b)) = inl refl
-moves s (on again) = inl refl
-moves s (on clock) = inl refl
-moves s (on stop) = either (stateValid s) (λ y. rw y (ended-moves (s .device) (s .part))) (λ n. inl (rw n))
-moves s (call c) = either (partValid (s .part)) (λ y. inr (c, rw y)) (λ n. inl (rw n))
-
-turned : (ts : List Turn) (s : State) → (cs : List Call) × (feed s ts .device ≡ run (s .device) cs)
-unfolding feed run Moves
-turned [] s = ([], refl)
-turned (t ∷ ts) s =
-    let rest = turned ts (after s t) in
-    ⊎-elim
-    (λ e. (rest .0, rest .1 ∙ ap (λ (d : Device). run d (rest .0)) e))
-    (λ m. (m .0 ∷ rest .0, rest .1 ∙ ap (λ (d : Device). run d (rest .0)) (m .1)))
-    (moves s t)
-
-pub reaches : Reaches
-unfolding Reaches
-reaches x ts = turned ts (state idle (powerOn x))
-
 -- ---- until STOP
 
 by-calls : (ts : List Turn) (s : State) → partValid (s .part) ≡ true → NoStop ts → feed s ts .device ≡ run (s .device) (callsIn ts)
@@ -206,3 +170,14 @@ start-drops s v = rw v
 pub until-stop : UntilStop
 unfolding UntilStop
 until-stop s ts v h = (by-calls ts s (part-of s v) h, start-drops (feed s ts) (feed-valid ts s v))
+
+-- ---- between START and STOP
+
+pub within-inner : (ts : List Turn) → Within ts → Inner (eventsIn ts)
+within-inner [] h = tt
+within-inner (on start ∷ ts) h = absurd h
+within-inner (on (byte b) ∷ ts) h = within-inner ts h
+within-inner (on again ∷ ts) h = within-inner ts h
+within-inner (on clock ∷ ts) h = within-inner ts h
+within-inner (on stop ∷ ts) h = absurd h
+within-inner (call c ∷ ts) h = within-inner ts h

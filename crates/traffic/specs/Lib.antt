@@ -1,4 +1,13 @@
 pub mod Traffic
 pub mod Runs
+pub mod Underway
+pub mod Whole
+pub mod Breach
+pub mod Nacks
+pub mod Fifteen
+pub mod Energy
+pub mod EnergyExample
 pub mod Buffers
 pub mod Occurs
+pub mod Transactions
+pub mod Claims

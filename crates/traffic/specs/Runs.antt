@@ -5,7 +5,7 @@ use mathlib.Core.Path.{_≡_}
 use mathlib.Core.Bool.{true}
 use mathlib.Core.List.{List, [], _∷_, _++_}
 use Rattle.bus.specs.Part.{started, idle}
-use Rattle.bus.specs.Automaton.{start, byte, again, clock, stop}
+use Rattle.bus.specs.Automaton.{Event, start, byte, again, clock, stop}
 use Rattle.bus.specs.Orders.{writeOrder, readOrder}
 use Rattle.device.specs.declared.Device.{Device}
 use Rattle.device.specs.Device.{Choice, granted, powerOn}
@@ -63,8 +63,7 @@ wholeAlong d (c ∷ cs) = record { answer = answer d c; sent = step d c .reply }
 unfoldable pub SameOutcomes : Type 0
 SameOutcomes = (d : Device) (l : List Item) → givenAlong (state idle d) l ≡ wholeAlong d (callsOf l)
 
--- ---- every run, orderly or not, with anything between: its device is one that whole calls reach, so that what holds of each state of a run
--- of whole calls (crate history) holds of it
+-- ---- every run, orderly or not, with anything between: its device is one that whole calls reach; Whole.antt says which calls these are
 unfoldable pub Reaches : Type 0
 Reaches = (x : Choice) (ts : List Turn) → (cs : List Call) × (feed (state idle (powerOn x)) ts .device ≡ reached x cs)
 
@@ -87,3 +86,21 @@ unfoldable pub UntilStop : Type 0
 UntilStop =
     (s : State) (ts : List Turn) → stateValid s ≡ true → NoStop ts
     → (feed s ts .device ≡ run (s .device) (callsIn ts)) × (after (feed s ts) (on start) ≡ state started (feed s ts .device))
+
+-- ---- the turns between START and STOP
+
+-- neither START nor STOP
+abbrev pub Within : List Turn → Type 0
+Within [] = Unit
+Within (on start ∷ ts) = ⊥
+Within (on (byte b) ∷ ts) = Within ts
+Within (on again ∷ ts) = Within ts
+Within (on clock ∷ ts) = Within ts
+Within (on stop ∷ ts) = ⊥
+Within (call c ∷ ts) = Within ts
+
+-- the events alone
+abbrev pub eventsIn : List Turn → List Event
+eventsIn [] = []
+eventsIn (on e ∷ ts) = e ∷ eventsIn ts
+eventsIn (call c ∷ ts) = eventsIn ts

@@ -1,2 +1,4 @@
 pub mod Applies
 pub mod Refusals
+pub mod PowerOn
+pub mod ValidFields

@@ -57,8 +57,8 @@ fn changed(p: Page, s: Setting) -> Page
 fn cleared(p: Page, m: Masks) -> Page
     ensures { λ r. ⌜ r ≡ cleared m p ⌝ }
 {
-    let q = page::settings::clear_bits(p, [m.vout, m.iout, m.input, m.temperature]);
-    page::causes::settled(q)
+    let lowered = page::settings::clear_bits(p, [m.vout, m.iout, m.input, m.temperature]);
+    page::causes::settled(lowered)
 }
 
 pub fn page_left(w: Write, p: Page) -> Page

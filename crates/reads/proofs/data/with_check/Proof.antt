@@ -12,25 +12,25 @@ use Rattle.pec.specs.Pec.{pec, pecFrom}
 use Rattle.pec.proofs.Laws.{pec-append}
 use Rattle.reads.specs.declared.reply.Stream.{Stream}
 use Rattle.reads.specs.Reply.{stream, streamOf}
-use Rattle.reads.specs.Data.{checked}
+use Rattle.reads.specs.Data.{covered, checked}
 use Rattle.reads.proofs.Streams.{with-one-more}
 use Rattle.reads.proofs.data.with_check.Statement.{statement}
 use Rattle.reads.proofs.data.with_check.Tie as tie
 
 -- the check k, carried on from the header, stands behind the data
 appended : (s : Stream) (header : List ℕ) (h k : ℕ) → s ≡ stream (streamOf s) → s .length < 8
-    → h ≡ pec header → k ≡ pecFrom h (streamOf s)
+    → h ≡ pec (covered header) → k ≡ pecFrom h (streamOf s)
     → record { bytes = set (s .bytes) (s .length) k; length = s .length + 1 } ≡ stream (checked header (streamOf s))
 unfolding checked pec
 appended s header h k made short start e =
     with-one-more s (streamOf s) made short k
-    ∙ ap (λ (x : ℕ). stream (streamOf s ++ (x ∷ []))) (e ∙ rw start (sym (pec-append 0 header (streamOf s))))
+    ∙ ap (λ (x : ℕ). stream (streamOf s ++ (x ∷ []))) (e ∙ rw start (sym (pec-append 0 (covered header) (streamOf s))))
 
 cast-n : tie.Need-cast-n
 cast-n c = search needs
 
-pec-requires : tie.Need-pec-requires
-pec-requires c κs = search needs
+header-check-requires : tie.Need-header-check-requires
+header-check-requires c κs = search needs
 
 array-share-prefix-bytes : tie.Need-array-share-prefix-bytes
 array-share-prefix-bytes c =
@@ -56,14 +56,14 @@ returns : tie.Need-returns
 returns c =
     let start = c .before .before .before .before .before .before .before in
     let a = start .args in
-    appended (a .body) (now (a .header)) _ _ (start .pre .0) (start .pre .1) (c .before .before .before .pec .ensures) (c .before .pec-from .ensures)
+    appended (a .body) (now (a .header)) _ _ (start .pre .0) (start .pre .1) (c .before .before .before .header-check .ensures) (c .before .pec-from .ensures)
 
 pub with-check-spec : {M : Type 1} → statement M
 with-check-spec =
     tie.close
     (tie.spec
     cast-n
-    pec-requires
+    header-check-requires
     array-share-prefix-bytes
     slice-aggregate-pec-from
     pec-from-requires

@@ -5,15 +5,9 @@ use borrow.Author.Needs.{needs}
 use Rattle.writes.proofs.left.cleared.Statement.{statement}
 use Rattle.writes.proofs.left.cleared.Tie as tie
 
-clear-bits-requires : tie.Need-clear-bits-requires
-clear-bits-requires c κs = search needs
-
-settled-requires : tie.Need-settled-requires
-settled-requires c κs = search needs
-
 returns : tie.Need-returns
 unfolding cleared
 returns c = cc
 
 pub cleared-spec : {M : Type 1} → statement M
-cleared-spec = tie.close (tie.spec clear-bits-requires settled-requires returns)
+cleared-spec = tie.close (tie.spec (λ c κs. search needs) (λ c κs. search needs) returns)

@@ -1,0 +1,89 @@
+-- Which causes and warnings are present, limit by limit: the code's tests, in exact values.
+-- Assumes nothing.
+use Prim.Native.Nat.{ℕ, zero, suc, _<_}
+use mathlib.Core.Path.{_≡_, refl}
+use mathlib.Core.Logic.{_↔_}
+use mathlib.Core.Bool.{true, false, _&&_, and-eq-true-iff, false≢true}
+use native.Mathlib.Omega.{arith}
+use lib.Dec.{eqb, ltb→lt, lt→ltb}
+use lib.IntN.{pos}
+use lib.ListN.{getD}
+use lib.Signed.{_<ℤ_}
+use Rattle.laws.proofs.Branches.{either, and-yes}
+use Rattle.linear11.specs.declared.Order.{Order}
+use Rattle.linear11.specs.declared.Order.the-variants.{Below, Equal, Above}
+use Rattle.linear11.specs.Comparison.{ComparesExactly}
+use Rattle.linear11.proofs.Comparison.{compares-exactly}
+use Rattle.cause.specs.Causes.{Side, above, below, VOUT, causes, warnings}
+use Rattle.page.specs.declared.Page.{Page}
+use Rattle.page.specs.Causes.{orderBy, onSide, crossed, presentCauses, presentWarnings}
+use Rattle.page.specs.Presence.{valueOf, Past, Beyond, PresentExactly}
+
+-- the order that counts on each side
+above-is : (o : Order) → onSide above o ≡ true → o ≡ Above
+unfolding onSide
+above-is Below h = absurd (false≢true h)
+above-is Equal h = absurd (false≢true h)
+above-is Above h = refl
+
+below-is : (o : Order) → onSide below o ≡ true → o ≡ Below
+unfolding onSide
+below-is Below h = refl
+below-is Equal h = absurd (false≢true h)
+below-is Above h = absurd (false≢true h)
+
+-- output voltage words as whole numbers
+pos-less : (a b : ℕ) → pos a <ℤ pos b → a < b
+pos-less a b h = ltb→lt a b (h .lt)
+
+less-pos : (a b : ℕ) → a < b → pos a <ℤ pos b
+less-pos a b h = record { lt = lt→ltb a b h }
+
+module _ (q word limit : ℕ) where
+  -- the test on a side, as an order of values
+  past : (s : Side) → onSide s (orderBy q word limit) ≡ true → Past s (valueOf q word) (valueOf q limit)
+  unfolding orderBy valueOf Past ComparesExactly
+  past above h =
+      either (eqb q VOUT)
+      (λ y. rw y (less-pos limit word (compares-exactly word limit .1 .above .0 (above-is _ (rw y at h)))))
+      (λ n. rw n (compares-exactly word limit .0 .above .0 (above-is _ (rw n at h))))
+  past below h =
+      either (eqb q VOUT)
+      (λ y. rw y (less-pos word limit (compares-exactly word limit .1 .below .0 (below-is _ (rw y at h)))))
+      (λ n. rw n (compares-exactly word limit .0 .below .0 (below-is _ (rw n at h))))
+
+  test : (s : Side) → Past s (valueOf q word) (valueOf q limit) → onSide s (orderBy q word limit) ≡ true
+  unfolding orderBy onSide valueOf Past ComparesExactly
+  test above h =
+      either (eqb q VOUT) (λ y. rw (y, compares-exactly word limit .1 .above .1 (pos-less limit word (rw y at h))))
+      (λ n. rw (n, compares-exactly word limit .0 .above .1 (rw n at h)))
+  test below h =
+      either (eqb q VOUT) (λ y. rw (y, compares-exactly word limit .1 .below .1 (pos-less word limit (rw y at h))))
+      (λ n. rw (n, compares-exactly word limit .0 .below .1 (rw n at h)))
+
+-- a line of the data sheet, where limit n is tested as it says
+line : (p : Page) (n q : ℕ) (s : Side)
+    → ((getD (p .measured) q false && onSide s (orderBy q (getD (p .words) q 0) (getD (p .limits) n 0))) ≡ true) ↔ Beyond p n (q, s)
+line p n q s =
+    let word = getD (p .words) q 0 in
+    let limit = getD (p .limits) n 0 in
+    let seen = getD (p .measured) q false in
+    let crosses = onSide s (orderBy q word limit) in (
+      λ h. let b = and-eq-true-iff seen crosses .0 h in record { measured = b .0; past = past q word limit s (b .1) },
+      λ b. and-yes seen crosses (b .measured) (test q word limit s (b .past)),
+    )
+
+pub present-exactly : PresentExactly
+unfolding PresentExactly presentCauses presentWarnings crossed causes warnings
+present-exactly p zero h = line p 0 0 above
+present-exactly p (suc zero) h = line p 1 1 above
+present-exactly p (suc (suc zero)) h = line p 2 3 above
+present-exactly p (suc (suc (suc zero))) h = line p 3 3 below
+present-exactly p (suc (suc (suc (suc zero)))) h = line p 4 2 above
+present-exactly p (suc (suc (suc (suc (suc zero))))) h = line p 5 2 below
+present-exactly p (suc (suc (suc (suc (suc (suc zero)))))) h = line p 6 0 above
+present-exactly p (suc (suc (suc (suc (suc (suc (suc zero))))))) h = line p 7 1 above
+present-exactly p (suc (suc (suc (suc (suc (suc (suc (suc zero)))))))) h = line p 8 3 above
+present-exactly p (suc (suc (suc (suc (suc (suc (suc (suc (suc zero))))))))) h = line p 9 2 above
+present-exactly p (suc (suc (suc (suc (suc (suc (suc (suc (suc (suc zero)))))))))) h = line p 10 2 below
+present-exactly p (suc (suc (suc (suc (suc (suc (suc (suc (suc (suc (suc n))))))))))) h = absurd (omega arith)
