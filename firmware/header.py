@@ -1,0 +1,39 @@
+"""The header for another target than x86-64 Linux, made from include/tongsorrel.h: the stack of that target, and for each function with
+structs by value the one by address that its archive has, with the function by value over it, inline, by the target's own compiler."""
+import re
+
+from interface import NUMBERS, by_value, functions
+
+ONLY_X86 = re.compile(r'#if !defined\(__x86_64__\).*?#endif\n', flags=re.S)
+STACK = re.compile(r'#define TONGSORREL_STACK \d+\n')
+
+
+def declared(p):
+    return f'{"const " if p.const else ""}{p.type} {"*" if p.pointer else ""}{p.name}'
+
+
+def address(p):
+    """The same parameter, with a struct by address."""
+    return p if p.pointer or p.type in NUMBERS else p._replace(pointer=True, const=True)
+
+
+def twice(function):
+    """NAME_at, and NAME over it."""
+    at, gives = function.name + '_at', function.type not in NUMBERS
+    outer = ', '.join(map(declared, function.parameters)) or 'void'
+    inner = ([f'{function.type} *result'] if gives else []) + [declared(address(p)) for p in function.parameters]
+    handed = (['&result'] if gives else []) + [('' if address(p) == p else '&') + p.name for p in function.parameters]
+    call = f'{at}({", ".join(handed)})'
+    body = f'    {function.type} result;\n    {call};\n    return result;\n' if gives else f'    return {call};\n'
+    kind = 'void' if gives else function.type
+    return f'{kind} {at}({", ".join(inner)});\nstatic inline {function.type} {function.name}({outer}) {{\n{body}}}\n'
+
+
+def of_target(text, stack):
+    for function in functions(text):
+        if by_value(function):
+            text = text.replace(function.text, twice(function))
+    text, cut = ONLY_X86.subn('', text)
+    text, set_ = STACK.subn(f'#define TONGSORREL_STACK {stack}\n', text)
+    assert cut == 1 and set_ == 1, 'the header has not one place for the target and one for the stack'
+    return text
