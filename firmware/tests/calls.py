@@ -17,8 +17,6 @@ print('''/* Written by firmware/tests/calls.py. */
 #include "machine.h"
 #include "tongsorrel.h"
 
-#include <string.h>
-
 #ifndef ROUNDS
 #define ROUNDS 120000
 #endif

@@ -1,10 +1,9 @@
 /* Plays the events of events.txt, as reference/src/bin/events.rs writes them, on the streaming device. Prints a sum over every result and over
  * the whole buffer after every event, so that two machines that print the same have done the same. The buffer wanders over odd addresses.
- * Where the machine counts instructions, lines that begin with # have what each kind of call takes: calls, mean, most. */
+ * On a board, lines that begin with # have what each kind of call takes: its name, the function; calls, instructions (mean, most; right under
+ * -icount alone), and bytes of stack, found on a stack that was painted before one call in seventeen. */
 #include "machine.h"
 #include "tongsorrel.h"
-
-#include <string.h>
 
 enum { SIZE = TONGSORREL_STREAM_SIZE, LINE = 4096 };
 
@@ -28,25 +27,50 @@ static void say_number(uint32_t number, uint32_t base) {
 /* ---- counting */
 
 typedef struct kind {
-    const char *name;
-    uint32_t calls, total, most;
+    const char *name, *function;
+    uint32_t calls, total, most, stack;
 } kind;
-static kind START = {"START", 0, 0, 0}, BYTE = {"byte", 0, 0, 0}, SECOND = {"second address byte", 0, 0, 0},
-            REPEATED = {"repeated START", 0, 0, 0}, CLOCK = {"clock", 0, 0, 0}, STOP = {"STOP", 0, 0, 0}, MEASURE = {"measure", 0, 0, 0},
-            SAMPLE = {"sample", 0, 0, 0}, TICK = {"tick", 0, 0, 0}, ALERT = {"alert response", 0, 0, 0}, SUPPLIES = {"supplies", 0, 0, 0};
+#define KIND(name, function) {name, "tongsorrel_" function, 0, 0, 0, 0}
+static kind START = KIND("START", "stream_start"), BYTE = KIND("byte", "stream_byte"), SECOND = KIND("second address byte", "stream_byte"),
+            REPEATED = KIND("repeated START", "stream_repeated_start"), CLOCK = KIND("clock", "stream_clock"),
+            STOP = KIND("STOP", "stream_stop"), MEASURE = KIND("measure", "stream_measure"), SAMPLE = KIND("sample", "stream_sample"),
+            TICK = KIND("tick", "stream_tick"), ALERT = KIND("alert response", "stream_alert_response"),
+            SUPPLIES = KIND("supplies", "stream_supplies"), ONE_PAGE = KIND("STOP, a limit of one page", "stream_stop"),
+            EVERY_PAGE = KIND("STOP, a limit of every page", "stream_stop"), PEC = KIND("PEC of 256 bytes", "pec");
 static uint32_t rate, empty, before;
 
+/* The stack below here, painted, and how far down from here it has been written since. */
+enum { PAINTED = 4096, PAINT = 0xA5 };
+static uintptr_t bottom;
+static bool painted;
+__attribute__((noinline)) static void paint(void) {
+    volatile uint8_t below[PAINTED];
+    bottom = (uintptr_t)below;
+    for (uint32_t i = 0; i < PAINTED; i++) below[i] = PAINT;
+}
+__attribute__((noinline)) static uint32_t depth(void) {
+    uint32_t left = 0;
+    while (left < PAINTED && ((const volatile uint8_t *)bottom)[left] == PAINT) left++;
+    return PAINTED - left;
+}
+
 static uint32_t counted(uint32_t passed) { return rate == 0 ? 0 : (passed * 1000 + rate / 2) / rate; }
-static void begin(void) { before = machine_time(); }
+static void begin(void) {
+    static uint32_t calls;
+    painted = rate != 0 && calls++ % 17 == 0;
+    if (painted) paint();
+    before = machine_time();
+}
 static uint32_t took(void) {
     uint32_t passed = counted(machine_passed(before, machine_time()));
     return passed < empty ? 0 : passed - empty;
 }
 
 static uint8_t given(kind *k, uint8_t result) {
-    uint32_t instructions = took();
+    uint32_t instructions = took(), stack = painted ? depth() : 0;
     k->calls++, k->total += instructions;
     if (instructions > k->most) k->most = instructions;
+    if (stack > k->stack) k->stack = stack;
     return result;
 }
 #define COUNT(kind, call) (begin(), given(&kind, call))
@@ -56,16 +80,15 @@ __attribute__((noinline)) static uint8_t nothing(uint8_t *s, uint64_t length) {
     return (uint8_t)length;
 }
 
-static void say_line(const char *name, uint32_t calls, uint32_t mean, uint32_t most) {
-    machine_say("# ");
-    machine_say(name);
-    machine_say(": ");
-    say_number(calls, 10), machine_say(" ");
-    say_number(mean, 10), machine_say(" ");
-    say_number(most, 10), machine_say("\n");
-}
 static void say(const kind *k) {
-    if (k->calls != 0) say_line(k->name, k->calls, k->total / k->calls, k->most);
+    if (k->calls == 0) return;
+    machine_say("# ");
+    machine_say(k->name), machine_say(": ");
+    machine_say(k->function), machine_say(" ");
+    say_number(k->calls, 10), machine_say(" ");
+    say_number(k->total / k->calls, 10), machine_say(" ");
+    say_number(k->most, 10), machine_say(" ");
+    say_number(k->stack, 10), machine_say("\n");
 }
 
 /* ---- events */
@@ -89,13 +112,17 @@ static uint32_t number(void) {
     return value;
 }
 
-static bool is(const char *a, const char *b) { return strcmp(a, b) == 0; }
+static bool is(const char *a, const char *b) {
+    while (*a != '\0' && *a == *b) a++, b++;
+    return *a == *b;
+}
 
 static uint8_t play(const char *name) {
     static bool turning;
     bool second = turning;
     uint32_t first = number(), next = number(), last = number();
-    turning = is(name, "repeated");
+    if (is(name, "repeated")) turning = true;
+    else if (is(name, "start") || is(name, "byte") || is(name, "clock") || is(name, "stop")) turning = false;
     if (is(name, "start")) return COUNT(START, tongsorrel_stream_start(state, SIZE));
     if (is(name, "byte") && second) return COUNT(SECOND, tongsorrel_stream_byte(state, SIZE, (uint8_t)first));
     if (is(name, "byte")) return COUNT(BYTE, tongsorrel_stream_byte(state, SIZE, (uint8_t)first));
@@ -134,7 +161,7 @@ static void events(void) {
             say_number(played, 10), machine_say(" ");
             say_number(sum, 16), machine_say("\n");
             uint8_t *moved = room + (played / LINE + 1) % 8;
-            memmove(moved, state, SIZE);
+            __builtin_memmove(moved, state, SIZE);
             state = moved;
         }
     }
@@ -150,7 +177,7 @@ static void bytes(const uint8_t *frame, uint32_t length) {
 }
 
 /* STOP of a limit with PEC, in one page or in all of them. */
-static void stop_of(const char *name, uint8_t page) {
+static uint8_t stop_of(kind *k, uint8_t page) {
     uint8_t select[] = {TONGSORREL_ADDRESS_WRITE, TONGSORREL_CODE_PAGE, page};
     uint8_t limit[] = {TONGSORREL_ADDRESS_WRITE, TONGSORREL_CODE_VIN_UV_WARN_LIMIT, 0x08, 0xF8, 0};
     limit[4] = tongsorrel_pec(limit, 4);
@@ -158,20 +185,7 @@ static void stop_of(const char *name, uint8_t page) {
     bytes(select, sizeof select);
     tongsorrel_stream_stop(state, SIZE);
     bytes(limit, sizeof limit);
-    begin();
-    uint8_t answer = tongsorrel_stream_stop(state, SIZE);
-    uint32_t instructions = took();
-    if (answer != TONGSORREL_DONE) machine_say("refused\n");
-    say_line(name, 1, instructions, instructions);
-}
-
-static void pec(void) {
-    enum { NUMBER = 256 };
-    begin();
-    uint8_t check = tongsorrel_pec(room, NUMBER);
-    uint32_t instructions = took() / NUMBER;
-    add(&check, 1);
-    say_line("PEC, a byte", NUMBER, instructions, instructions);
+    return COUNT(*k, tongsorrel_stream_stop(state, SIZE));
 }
 
 int main(void) {
@@ -183,10 +197,11 @@ int main(void) {
     tongsorrel_stream_power_on(state, SIZE);
     events();
     if (rate == 0) return 0;
-    const kind *const all[] = {&START, &BYTE, &SECOND, &REPEATED, &CLOCK, &STOP, &MEASURE, &SAMPLE, &TICK, &ALERT, &SUPPLIES};
+    for (int i = 0; i < 17; i++)
+        if (stop_of(&ONE_PAGE, 0) != TONGSORREL_DONE || stop_of(&EVERY_PAGE, TONGSORREL_EVERY_PAGE) != TONGSORREL_DONE) return 1;
+    for (int i = 0; i < 17; i++) COUNT(PEC, tongsorrel_pec(room, 256));
+    const kind *const all[] = {&START,  &BYTE, &SECOND, &REPEATED, &CLOCK,    &STOP,     &MEASURE,
+                               &SAMPLE, &TICK, &ALERT,  &SUPPLIES, &ONE_PAGE, &EVERY_PAGE, &PEC};
     for (uint32_t i = 0; i < sizeof all / sizeof all[0]; i++) say(all[i]);
-    stop_of("STOP, a limit of one page", 0);
-    stop_of("STOP, a limit of every page", TONGSORREL_EVERY_PAGE);
-    pec();
     return 0;
 }

@@ -1,0 +1,9 @@
+"""python3 stack.py PLAYED REPORT: no call took more stack on the board than the report says; and where the board has painted its stack, each
+function that was played has a bound."""
+import re
+import sys
+
+bounds = dict(re.findall(r'^stack (\w+): (\d+)$', open(sys.argv[2]).read(), flags=re.M))
+for name, function, found in re.findall(r'^# (.*): (\w+) \d+ \d+ \d+ (\d+)$', open(sys.argv[1]).read(), flags=re.M):
+    if int(found) > int(bounds[function]):
+        sys.exit(f'stack: {name} took {found} bytes, {bounds[function]} are said of {function}')
