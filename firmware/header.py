@@ -34,6 +34,6 @@ def of_target(text, stack):
         if by_value(function):
             text = text.replace(function.text, twice(function))
     text, cut = ONLY_X86.subn('', text)
-    text, set_ = STACK.subn(f'#define TONGSORREL_STACK {stack}\n', text)
+    text, set_ = STACK.subn(f'#define TONGSORREL_STACK {stack}\n#define TONGSORREL_BY_ADDRESS 1 /* there are functions .._at */\n', text)
     assert cut == 1 and set_ == 1, 'the header has not one place for the target and one for the stack'
     return text

@@ -24,7 +24,10 @@ typedef void (*handler)(void);
 __attribute__((section(".vectors"), used)) static const struct {
     void *stack;
     handler handlers[SYSTEM - 1 + BUS_IRQ + 1];
-} vectors = {stack_top, {reset, unexpected, unexpected, unexpected, unexpected, unexpected, [10] = unexpected, [SYSTEM - 1 + BUS_IRQ] = bus_irq}};
+} vectors = {
+    stack_top,
+    {reset, unexpected, unexpected, unexpected, unexpected, unexpected, [10] = unexpected, [SYSTEM - 1 + BUS_IRQ] = bus_irq},
+};
 
 /* Semihosting: what a debugger does for the program, and QEMU too. */
 int semihost(int what, const void *with) {

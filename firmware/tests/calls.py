@@ -1,6 +1,6 @@
-"""python3 calls.py: prints a C program that calls every function of include/tongsorrel.h at random, and sums up all that comes back. Two machines
-that print the same have done the same. Structs go from call to call, so that runs form; now and then a field or a byte of the buffer is
-changed, so that states come by that no run reaches. Buffers stand at odd addresses. Nothing here names a function but for the packet check."""
+"""python3 calls.py: prints a C program that calls every function of include/tongsorrel.h at random, and sums up all that comes back. Two
+machines that print the same have done the same. Structs go from call to call, so that runs form; now and then a field or a byte of the
+buffer is changed, so that states come by that no run reaches. Buffers stand at odd addresses. No function but the packet check is named."""
 import pathlib
 import re
 import sys
@@ -109,11 +109,12 @@ for name, fields in structs.items():
     print(f'__attribute__((unused)) static void change_{name}({name} *x) {{\n    switch (next() % {len(fields)}) {{')
     for i, field in enumerate(fields):
         at = field.name + (f'[next() % {field.size}]' if field.size else '')
-        print(f'    case {i}: ' + (f'change_{field.type}(&x->{at});' if field.type in structs else f'x->{at} = {random_of(field.type)};') + ' break;')
+        change = f'change_{field.type}(&x->{at});' if field.type in structs else f'x->{at} = {random_of(field.type)};'
+        print(f'    case {i}: {change} break;')
     print('    }\n}')
 
-for k, function in enumerate(functions):
-    print(f'static void call_{k}(void) {{ /* {function.name} */')
+for call, function in enumerate(functions):
+    print(f'static void call_{call}(void) {{ /* {function.name} */')
     arguments, after, buffers = [], [], 0
     for first, length in interface.slices(function):
         if length and first.type in structs:
@@ -138,7 +139,15 @@ for k, function in enumerate(functions):
         else:
             print(f'    {first.type} a_{first.name} = {random_of(first.type)};')
             arguments.append(f'a_{first.name}')
-    print(f'    {function.type} given = {function.name}({", ".join(arguments)});')
+    print(f'    {function.type} given;')
+    for field in structs.get(function.type, []):
+        for k, p in enumerate(function.parameters):
+            if field.type == p.type in structs and not p.pointer:  # by address also with the argument in the place of the result
+                handed = arguments[:k] + [f'&given.{field.name}'] + arguments[k + 1:]
+                print('    bool in_place = one_in(2);\n    (void)in_place;\n#ifdef TONGSORREL_BY_ADDRESS')
+                print(f'    given.{field.name} = {arguments[k]};')
+                print(f'    if (in_place) {function.name}_at(&given, {", ".join(handed)});\n    else\n#endif')
+    print(f'    given = {function.name}({", ".join(arguments)});')
     if function.type in structs:
         print(f'    add_{function.type}(&given);\n    kept_{function.type} = given;')
         for field in structs[function.type]:

@@ -15,7 +15,7 @@ machine() { # TARGET: what compiles for it and what runs a program
         gcc="$gcc -T firmware/board/cortex_m.ld -Wl,--defsym=ROM=$rom,--defsym=RAM=$ram,--no-warn-rwx-segments,-z,noexecstack"
         gcc="$gcc firmware/board/start.c firmware/tests/cortex_m.c" ;;
     riscv)
-        gcc="riscv64-unknown-elf-gcc -march=rv32imac_zicsr -mabi=ilp32 -ffreestanding -nostdlib -T firmware/tests/riscv32.ld"
+        gcc="riscv64-unknown-elf-gcc -march=rv32imac -misa-spec=2.2 -mabi=ilp32 -ffreestanding -nostdlib -T firmware/tests/riscv32.ld"
         gcc="$gcc firmware/tests/riscv32.c -Wl,--no-warn-rwx-segments" ;;
     linux) gcc="$gcc firmware/tests/linux.c" ;;
     esac

@@ -1,7 +1,7 @@
-/* Plays the events of events.txt, as reference/src/bin/events.rs writes them, on the streaming device. Prints a sum over every result and over
- * the whole buffer after every event, so that two machines that print the same have done the same. The buffer wanders over odd addresses.
- * On a board, lines that begin with # have what each kind of call takes: its name, the function; calls, instructions (mean, most; right under
- * -icount alone), and bytes of stack, found on a stack that was painted before one call in seventeen. */
+/* Plays the events of events.txt, as reference/src/bin/events.rs writes them, on the streaming device. Prints a sum over every result and
+ * over the whole buffer after every event, so that two machines that print the same have done the same. The buffer wanders over odd
+ * addresses. On a board, lines that begin with # have what each kind of call takes: its name, the function; calls, instructions (mean and
+ * most; right under -icount alone), and bytes of stack, found on a stack that was painted before one call in seventeen. */
 #include "machine.h"
 #include "tongsorrel.h"
 

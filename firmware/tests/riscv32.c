@@ -1,4 +1,5 @@
-/* The board virt of QEMU with a 32-bit RISC-V core and no firmware under it: semihosting, and the count of instructions, exact under -icount. */
+/* The board virt of QEMU with a 32-bit RISC-V core and nothing under the program: semihosting, and the core's count of instructions, exact
+ * under -icount. */
 #include "machine.h"
 
 #include <stddef.h>
@@ -6,7 +7,9 @@
 int main(void);
 extern uint32_t bss_start[], bss_end[];
 
-__attribute__((naked, aligned(16), noinline)) static int semihost(int what __attribute__((unused)), const void *with __attribute__((unused))) {
+/* The arguments are in a0 and a1 as they come. */
+#define UNUSED __attribute__((unused))
+__attribute__((naked, aligned(16), noinline)) static int semihost(int what UNUSED, const void *with UNUSED) {
     __asm volatile(".option push\n.option norvc\nslli x0, x0, 0x1f\nebreak\nsrai x0, x0, 7\nret\n.option pop");
 }
 

@@ -1,5 +1,4 @@
-"""python3 stack.py PLAYED REPORT: no call took more stack on the board than the report says; and where the board has painted its stack, each
-function that was played has a bound."""
+"""python3 stack.py PLAYED REPORT: no call that play.c made took more stack on the board than report.txt says of its function."""
 import re
 import sys
 
