@@ -2,9 +2,16 @@
 structs by value the one by address that its archive has, with the function by value over it, inline, by the target's own compiler."""
 import re
 
-from interface import NUMBERS, by_value, functions
+from interface import NUMBERS, by_value, functions, stop
 
-ONLY_X86 = re.compile(r'#if !defined\(__x86_64__\).*?#endif\n', flags=re.S)
+ONLY_X86 = re.compile(r'#if !defined\(__x86_64__\).*?#endif\n\n', flags=re.S)
+FOR_X86 = re.compile(r' \* This header is for x86-64 Linux\..*?\n \*\n', flags=re.S)
+FOR_TARGET = """\
+ * This header is for the archives of {name}, and made with them by firmware/build (docs/CONTROLLER.md). A function with structs by
+ * value is there by address, NAME_at: first the place of the result, in which the struct handed in may stand too. NAME is inline over
+ * it. TONGSORREL_STACK is the most that report.txt says of any function. Lengths have 64 bits.
+ *
+"""
 STACK = re.compile(r'#define TONGSORREL_STACK \d+\n')
 
 
@@ -29,11 +36,15 @@ def twice(function):
     return f'{kind} {at}({", ".join(inner)});\nstatic inline {function.type} {function.name}({outer}) {{\n{body}}}\n'
 
 
-def of_target(text, stack):
+def of_target(text, name, stack):
+    """The header for the build of this name, TARGET-LEVEL."""
     for function in functions(text):
         if by_value(function):
             text = text.replace(function.text, twice(function))
-    text, cut = ONLY_X86.subn('', text)
-    text, set_ = STACK.subn(f'#define TONGSORREL_STACK {stack}\n#define TONGSORREL_BY_ADDRESS 1 /* there are functions .._at */\n', text)
-    assert cut == 1 and set_ == 1, 'the header has not one place for the target and one for the stack'
+    changed = [(FOR_X86, FOR_TARGET.format(name=name)), (ONLY_X86, ''),
+               (STACK, f'#define TONGSORREL_STACK {stack}\n#define TONGSORREL_BY_ADDRESS 1 /* there are functions .._at */\n')]
+    for pattern, instead in changed:
+        text, times = pattern.subn(instead, text)
+        if times != 1:
+            stop(f'the header has {times} places of the form {pattern.pattern}')
     return text

@@ -6,6 +6,7 @@ is taken as a call; retarget.py lets no call through a pointer pass, and none of
 function of the C or compiler's runtime, which stays the user's to check.
 
 Bytes: the code and constants that a linker keeps for these functions alone."""
+import pathlib
 import re
 import sys
 
@@ -15,9 +16,8 @@ import interface
 from interface import stop
 
 RUNTIME = 32
-NEEDS = {'memcpy', 'memmove', 'memset', '__aeabi_memcpy', '__aeabi_memcpy4', '__aeabi_memcpy8', '__aeabi_memmove', '__aeabi_memmove4',
-         '__aeabi_memmove8', '__aeabi_memset', '__aeabi_memset4', '__aeabi_memset8', '__aeabi_memclr', '__aeabi_memclr4', '__aeabi_memclr8',
-         '__aeabi_uidiv', '__aeabi_uidivmod', '__aeabi_lmul', '__aeabi_llsl', '__aeabi_llsr', '__aeabi_uldivmod', '__udivdi3', '__umoddi3'}
+NEEDS = {'memcpy', 'memmove', 'memset', *(f'__aeabi_mem{what}{n}' for what in ('cpy', 'move', 'set', 'clr') for n in ('', '4', '8')),
+         '__aeabi_lmul', '__aeabi_llsl', '__aeabi_llsr', '__aeabi_uidiv', '__aeabi_uidivmod', '__aeabi_uldivmod', '__udivdi3'}
 
 
 def frames(path):
@@ -79,7 +79,7 @@ def report(folder, names):
             print(f'stack {function}: {size}', file=out)
         print(f'stack most: {most}', file=out)
         print(f'needs: {" ".join(sorted(needs))}', file=out)
-    open(f'{folder}/include/tongsorrel.h', 'w').write(header.of_target(interface.HEADER.read_text(), most))
+    open(f'{folder}/include/tongsorrel.h', 'w').write(header.of_target(interface.HEADER.read_text(), pathlib.Path(folder).name, most))
 
 
 report(sys.argv[1], sys.argv[2:])
