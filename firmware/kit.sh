@@ -1,4 +1,5 @@
 # Where the kit's tools are, and the flags that rattle compiles with on every target.
+export PYTHONDONTWRITEBYTECODE=1 # no folders of Python among the sources
 kit=$(cd "$(dirname "$(readlink -f "$(command -v rt)")")/.." && pwd)
 tools=$kit/on/$(uname -m)/toolchain/bin
 common="-ffunction-sections -fdata-sections -mllvm -trap-unreachable -mllvm -no-trap-after-noreturn --no-default-config"
