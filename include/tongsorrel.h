@@ -1,7 +1,10 @@
-/* Tongsorrel for C and C++. x86-64 Linux; three archives, which may be linked side by side and call nothing but memcpy and memset:
+/* Tongsorrel for C and C++. Three archives, which may be linked side by side and on x86-64 call nothing but memcpy and memset:
  *   libhost.a        for a host: the functions named tongsorrel_host_...
  *   liblent.a        for firmware: the device over lent records, tongsorrel_lent_...
  *   libtongsorrel.a  for firmware: all others; the host's totalizer is among them, for a host that wants nothing else.
+ *
+ * This header is for x86-64 Linux. For a controller or another host firmware/build writes the archives, and this header for them
+ * (docs/CONTROLLER.md). Lengths have 64 bits on every target.
  *
  * Each function is proved: for all arguments it gives exactly the result named at it, writes nothing but what is named, and ends.
  * Numbers such as 7.6 are clauses of docs/DATASHEET.md.
@@ -21,14 +24,18 @@
 #include <stddef.h>
 #include <stdint.h>
 
+#if !defined(__x86_64__) || !defined(__linux__)
+#error "this header is for the archives of x86-64 Linux; firmware/build writes one for each other target, beside its archives"
+#endif
+
 #ifdef __cplusplus
 extern "C" {
 #endif
 
 #define TONGSORREL_STACK 2048
 
-/* The version, and the number of the layout of all structs and of the state buffer. The number stands in the names of three functions, one of
- * each archive: a program that calls the one of its archive, as the examples do, does not link with an archive of another layout. */
+/* The version, and the number of the layout of all structs and of the state buffer. The number stands in the names of three functions,
+ * one of each archive: a program that calls the one of its archive, as the examples do, does not link with an archive of another layout. */
 #define TONGSORREL_VERSION "0.9"
 #define TONGSORREL_LAYOUT 1
 uint32_t tongsorrel_layout_1(void);
@@ -213,10 +220,10 @@ enum { TONGSORREL_PAGES = 8 };
 /* ---- packet check and Linear11 values */
 
 /* The packet check (PEC) of the bytes of a transaction, address bytes included (2.5, 2.6). */
-uint8_t tongsorrel_pec(const uint8_t *bytes, size_t length);
+uint8_t tongsorrel_pec(const uint8_t *bytes, uint64_t length);
 
 /* The packet check carried on: crc is the check of the bytes before, 0 where there are none. */
-uint8_t tongsorrel_pec_from(uint8_t crc, const uint8_t *bytes, size_t length);
+uint8_t tongsorrel_pec_from(uint8_t crc, const uint8_t *bytes, uint64_t length);
 
 /* The value of a Linear11 word times 65,536, which is always a whole number (5.3, 5.4). */
 int64_t tongsorrel_linear11_scaled(uint16_t word);
@@ -280,11 +287,11 @@ typedef struct tongsorrel_done {
 tongsorrel_device tongsorrel_power_on(void);
 
 /* A write transaction: the bytes from START to STOP, address byte first. Answers 0, 1, 2, 3, 5 to 9, 15 (11.2). */
-tongsorrel_done tongsorrel_write(tongsorrel_device device, const uint8_t *bytes, size_t length);
+tongsorrel_done tongsorrel_write(tongsorrel_device device, const uint8_t *bytes, uint64_t length);
 
 /* A read transaction: the header C0h, code, C1h, and a reply buffer of n bytes, n being the number of bytes that the host clocks. All n
  * bytes are written (2.9). Answers 0, 1, 2, 3, 9 (a paged code under PAGE FFh: 3.8), 10, 11, 15 (11.3). */
-tongsorrel_done tongsorrel_read(tongsorrel_device device, const uint8_t *header, size_t header_length, uint8_t *reply, size_t n);
+tongsorrel_done tongsorrel_read(tongsorrel_device device, const uint8_t *header, uint64_t header_length, uint8_t *reply, uint64_t n);
 
 /* A measurement: the latest word of a quantity on a page (5.6), which is 0 to 7 whatever PAGE is. Answers 0, 12, 15. */
 tongsorrel_done tongsorrel_measure(tongsorrel_device device, uint8_t page, uint8_t quantity, uint16_t word);
@@ -297,7 +304,7 @@ tongsorrel_done tongsorrel_tick(tongsorrel_device device);
 
 /* An alert response with a reply buffer of n bytes, all of which are written: C0h where it is answered, FFh throughout otherwise
  * (8.4, 8.5). Answers 0, 2, 14, 15. */
-tongsorrel_done tongsorrel_alert_response(tongsorrel_device device, uint8_t *reply, size_t n);
+tongsorrel_done tongsorrel_alert_response(tongsorrel_device device, uint8_t *reply, uint64_t n);
 
 /* Whether the firmware keeps the supply of a page switched on (7.6, 7.7). A page over 7 is off. It changes after a write, a measurement or
  * a tick. */
@@ -320,32 +327,32 @@ typedef struct tongsorrel_outcome {
 
 /* Sets every record to its power-on values, whatever it held. Answers 0, 15: with 15 no record is touched, and the unpaged part that comes
  * back is that of power-on. */
-tongsorrel_outcome tongsorrel_lent_power_on(tongsorrel_page *pages, size_t number);
+tongsorrel_outcome tongsorrel_lent_power_on(tongsorrel_page *pages, uint64_t number);
 
 /* As tongsorrel_write: changes the record that PAGE selects, or under FFh any of them. */
-tongsorrel_outcome tongsorrel_lent_write(tongsorrel_unpaged unpaged, tongsorrel_page *pages, size_t number, const uint8_t *bytes,
-                                         size_t length);
+tongsorrel_outcome tongsorrel_lent_write(tongsorrel_unpaged unpaged, tongsorrel_page *pages, uint64_t number, const uint8_t *bytes,
+                                         uint64_t length);
 
 /* As tongsorrel_read: changes no record. */
-tongsorrel_outcome tongsorrel_lent_read(tongsorrel_unpaged unpaged, const tongsorrel_page *pages, size_t number, const uint8_t *header,
-                                        size_t header_length, uint8_t *reply, size_t n);
+tongsorrel_outcome tongsorrel_lent_read(tongsorrel_unpaged unpaged, const tongsorrel_page *pages, uint64_t number, const uint8_t *header,
+                                        uint64_t header_length, uint8_t *reply, uint64_t n);
 
 /* As tongsorrel_measure: changes the record of that page. */
-tongsorrel_outcome tongsorrel_lent_measure(tongsorrel_unpaged unpaged, tongsorrel_page *pages, size_t number, uint8_t page,
+tongsorrel_outcome tongsorrel_lent_measure(tongsorrel_unpaged unpaged, tongsorrel_page *pages, uint64_t number, uint8_t page,
                                            uint8_t quantity, uint16_t word);
 
 /* As tongsorrel_sample: changes no record. */
-tongsorrel_outcome tongsorrel_lent_sample(tongsorrel_unpaged unpaged, const tongsorrel_page *pages, size_t number, uint16_t sample);
+tongsorrel_outcome tongsorrel_lent_sample(tongsorrel_unpaged unpaged, const tongsorrel_page *pages, uint64_t number, uint16_t sample);
 
 /* As tongsorrel_tick: may change any record. */
-tongsorrel_outcome tongsorrel_lent_tick(tongsorrel_unpaged unpaged, tongsorrel_page *pages, size_t number);
+tongsorrel_outcome tongsorrel_lent_tick(tongsorrel_unpaged unpaged, tongsorrel_page *pages, uint64_t number);
 
 /* As tongsorrel_alert_response: changes no record. */
-tongsorrel_outcome tongsorrel_lent_alert_response(tongsorrel_unpaged unpaged, const tongsorrel_page *pages, size_t number, uint8_t *reply,
-                                                  size_t n);
+tongsorrel_outcome tongsorrel_lent_alert_response(tongsorrel_unpaged unpaged, const tongsorrel_page *pages, uint64_t number, uint8_t *reply,
+                                                  uint64_t n);
 
 /* Whether the firmware keeps the supply of a page switched on; a page beyond the records is off. */
-bool tongsorrel_lent_supplies(const tongsorrel_page *pages, size_t number, uint8_t page);
+bool tongsorrel_lent_supplies(const tongsorrel_page *pages, uint64_t number, uint8_t page);
 
 /* ---- the streaming device: the bus event by event */
 
@@ -369,33 +376,33 @@ enum {
 };
 
 /* Power-on: sets every byte of the buffer, whatever it held. Answers 0, 15. */
-uint8_t tongsorrel_stream_power_on(uint8_t *state, size_t length);
+uint8_t tongsorrel_stream_power_on(uint8_t *state, uint64_t length);
 
 /* START begins a transaction and drops one that had no STOP (17.9). Answers 0, 15. */
-uint8_t tongsorrel_stream_start(uint8_t *state, size_t length);
+uint8_t tongsorrel_stream_start(uint8_t *state, uint64_t length);
 
 /* A byte that the host wrote, address bytes among them: TONGSORREL_ACK or TONGSORREL_NACK (17.4). */
-uint8_t tongsorrel_stream_byte(uint8_t *state, size_t length, uint8_t byte);
+uint8_t tongsorrel_stream_byte(uint8_t *state, uint64_t length, uint8_t byte);
 
 /* A repeated START. Answers 0, 15. */
-uint8_t tongsorrel_stream_repeated_start(uint8_t *state, size_t length);
+uint8_t tongsorrel_stream_repeated_start(uint8_t *state, uint64_t length);
 
 /* A byte that the host clocks: the byte to send, FFh where there is none (17.5). */
-uint8_t tongsorrel_stream_clock(uint8_t *state, size_t length);
+uint8_t tongsorrel_stream_clock(uint8_t *state, uint64_t length);
 
 /* STOP: the answer that the whole transaction gets, and its effect (17.6). Answers 0 to 3, 5 to 11, 15. */
-uint8_t tongsorrel_stream_stop(uint8_t *state, size_t length);
+uint8_t tongsorrel_stream_stop(uint8_t *state, uint64_t length);
 
 /* As tongsorrel_measure, tongsorrel_sample, tongsorrel_tick and tongsorrel_alert_response, on the device in the buffer. */
-uint8_t tongsorrel_stream_measure(uint8_t *state, size_t length, uint8_t page, uint8_t quantity, uint16_t word);
-uint8_t tongsorrel_stream_sample(uint8_t *state, size_t length, uint16_t sample);
-uint8_t tongsorrel_stream_tick(uint8_t *state, size_t length);
-uint8_t tongsorrel_stream_alert_response(uint8_t *state, size_t length, uint8_t *reply, size_t n);
+uint8_t tongsorrel_stream_measure(uint8_t *state, uint64_t length, uint8_t page, uint8_t quantity, uint16_t word);
+uint8_t tongsorrel_stream_sample(uint8_t *state, uint64_t length, uint16_t sample);
+uint8_t tongsorrel_stream_tick(uint8_t *state, uint64_t length);
+uint8_t tongsorrel_stream_alert_response(uint8_t *state, uint64_t length, uint8_t *reply, uint64_t n);
 
 /* Whether the firmware keeps the supply of a page switched on, and whether it holds SMBALERT# asserted: 1 or 0. A page over 7 is off, and
  * so is everything in a buffer of another length. Both may change at STOP and after each of the four calls above. */
-uint8_t tongsorrel_stream_supplies(const uint8_t *state, size_t length, uint8_t page);
-uint8_t tongsorrel_stream_alert(const uint8_t *state, size_t length);
+uint8_t tongsorrel_stream_supplies(const uint8_t *state, uint64_t length, uint8_t page);
+uint8_t tongsorrel_stream_alert(const uint8_t *state, uint64_t length);
 
 /* ---- the host's totalizer */
 
@@ -419,7 +426,7 @@ tongsorrel_totalizer tongsorrel_totalizer_fresh(void);
 
 /* One reply, as it came over the bus: the seven bytes of READ_EIN and the PEC, which covers the header C0h 86h C1h too (10.2).
  * Answers 0, 15, 20 to 24 (11.5). */
-tongsorrel_taken tongsorrel_totalizer_take(tongsorrel_totalizer totalizer, const uint8_t *reply, size_t length);
+tongsorrel_taken tongsorrel_totalizer_take(tongsorrel_totalizer totalizer, const uint8_t *reply, uint64_t length);
 
 /* ---- the host's transactions: libhost.a */
 
@@ -437,18 +444,18 @@ enum {
 /* What was built: the bytes of the frame, and of a read the bytes to clock behind it. Both are 0 for an answer other than 0. */
 typedef struct tongsorrel_built {
     uint8_t answer;
-    size_t length;
-    size_t count;
+    uint64_t length;
+    uint64_t count;
 } tongsorrel_built;
 
 /* A write: C0h, code, the data, and the PEC where check asks for one (18.2), which is not among the data. The frame stands in the buffer
  * from the place on; no other byte of the buffer is touched, and none at all under a refusal (18.5). Answers 0, 3, 5, 6, 26 (18.4). */
-tongsorrel_built tongsorrel_host_write(uint8_t *buffer, size_t size, size_t place, uint8_t code, const uint8_t *data, size_t number,
+tongsorrel_built tongsorrel_host_write(uint8_t *buffer, uint64_t size, uint64_t place, uint8_t code, const uint8_t *data, uint64_t number,
                                        bool check);
 
 /* A read: the header C0h, code, C1h, likewise, and in .count the bytes to clock: the data, and the PEC where check asks for one (18.3).
  * Answers 0, 3, 26 (18.4). */
-tongsorrel_built tongsorrel_host_read(uint8_t *buffer, size_t size, size_t place, uint8_t code, bool check);
+tongsorrel_built tongsorrel_host_read(uint8_t *buffer, uint64_t size, uint64_t place, uint8_t code, bool check);
 
 /* A reply in its fields (18.6): byte where the code has one data byte, word where it has two, account for READ_EIN. Fields that a code does
  * not have are 0, and all are under a refusal. */
@@ -460,11 +467,11 @@ typedef struct tongsorrel_reply {
 } tongsorrel_reply;
 
 /* The bytes clocked in a read of the code, with PEC or without. Answers 0, 3, 20 to 23 (18.7). */
-tongsorrel_reply tongsorrel_host_reply(uint8_t code, bool check, const uint8_t *reply, size_t length);
+tongsorrel_reply tongsorrel_host_reply(uint8_t code, bool check, const uint8_t *reply, uint64_t length);
 
 /* As tongsorrel_totalizer_fresh and tongsorrel_totalizer_take, for the replies of a code: TONGSORREL_CODE_READ_EIN (18.8). */
 tongsorrel_totalizer tongsorrel_host_totalizer_fresh(void);
-tongsorrel_taken tongsorrel_host_totalizer_take(tongsorrel_totalizer totalizer, uint8_t code, const uint8_t *reply, size_t length);
+tongsorrel_taken tongsorrel_host_totalizer_take(tongsorrel_totalizer totalizer, uint8_t code, const uint8_t *reply, uint64_t length);
 
 /* ---- numbers for limits: libhost.a */
 

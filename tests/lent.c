@@ -14,9 +14,9 @@ static tongsorrel_page room[ROOM], before[ROOM];
 static tongsorrel_page *const pages = room + FENCE;
 static int failures;
 
-static void expect(bool holds, const char *what, size_t number) {
+static void expect(bool holds, const char *what, uint64_t number) {
     if (!holds) {
-        printf("  C: FAILED with %zu records: %s\n", number, what);
+        printf("  C: FAILED with %llu records: %s\n", (unsigned long long)number, what);
         failures++;
     }
 }
@@ -52,7 +52,7 @@ static bool only(size_t i) {
 }
 
 /* All six calls get 15, and no byte of a record and nothing of the unpaged part changes. */
-static void refused(tongsorrel_unpaged unpaged, size_t number) {
+static void refused(tongsorrel_unpaged unpaged, uint64_t number) {
     static const uint8_t write[] = {TONGSORREL_ADDRESS_WRITE, TONGSORREL_CODE_OPERATION, TONGSORREL_OPERATION_ON};
     static const uint8_t header[] = {TONGSORREL_ADDRESS_WRITE, TONGSORREL_CODE_STATUS_WORD, TONGSORREL_ADDRESS_READ};
     uint8_t reply[3] = {0, 0, 0x55};
@@ -117,7 +117,7 @@ static void number_lent(size_t number) {
     refused(unpaged, number);
 }
 
-static void wrong_number(size_t number) {
+static void wrong_number(uint64_t number) {
     tongsorrel_unpaged unpaged = powered(8);
     refused(unpaged, number);
     scribble();
@@ -132,7 +132,7 @@ static void one_by_one(void) {
     number_lent(96);
     wrong_number(0);
     wrong_number(97);
-    wrong_number((size_t)1 << 40); /* more than the memory holds: no record is read */
+    wrong_number((uint64_t)1 << 40); /* more than the memory holds: no record is read */
     for (size_t number = 1; number <= 96; number += 5) {
         tongsorrel_unpaged unpaged = powered(number);
         scribble();
