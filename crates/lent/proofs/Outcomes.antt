@@ -21,7 +21,7 @@ use Rattle.writes.specs.declared.asked.Write.{Write}
 use Rattle.writes.specs.Asked.{asked}
 use Rattle.writes.specs.Left.{pageLeft, unpagedLeft, clearing}
 use Rattle.device.specs.declared.Device.{Device}
-use Rattle.device.specs.Device.{device, numberOf, usual, supported, granted, deviceValid}
+use Rattle.device.specs.Device.{device, deviceValid, supported}
 use Rattle.device.specs.Step.{write, measure, alertResponse, tick, answerOf, answered, effect, written, measured, tickedDevice, refusedDevice, left, done, step}
 use Rattle.device.proofs.PowerOn.{usual-number, usual-granted, usual-device, usual-unpaged}
 use Rattle.device.proofs.OnePage.{one-written, one-measured}
@@ -163,14 +163,13 @@ module _ (u : Unpaged) (ps : List Page) where
       let t-is : t ≡ turn (refusedOutcome u a) p false false = e ∙ rw refuses in
       rw (t-is, many-put ps many k p) (stepped (device u ps) (measure k quantity word) _ a refl (rw refuses)))
 
--- the usual choice for as many pages is granted
-usual-taken : (n : ℕ) → supported n ≡ true → (eqb (numberOf (usual n)) n && granted (usual n)) ≡ true
-usual-taken n y = rw (usual-number n, eq-eqb n n refl, usual-granted n, y)
-
 -- power-on sets the records where its answer is 0
 pub powered-done : (ps : List Page) → poweredOutcome (length ps) .answer ≡ 0 → beside (poweredOutcome (length ps)) (replicate (length ps) powerOnPage) ≡ powered ps
 unfolding poweredBy poweredOutcome
-powered-done ps z = either (supported (length ps)) (λ y. rw (y, usual-taken (length ps) y, usual-device (length ps))) (λ n. let f : 15 ≡ 0 = rw n at z in absurd (omega arith))
+powered-done ps z =
+    either (supported (length ps))
+    (λ y. rw (y, usual-number (length ps), eq-eqb (length ps) (length ps) refl, usual-granted (length ps), y, usual-device (length ps)))
+    (λ n. let f : 15 ≡ 0 = rw n at z in absurd (omega arith))
 
 pub powered-kept : (ps : List Page) → (poweredOutcome (length ps) .answer ≡ 0 → ⊥) → beside (poweredOutcome (length ps)) ps ≡ powered ps
 unfolding poweredBy poweredOutcome
