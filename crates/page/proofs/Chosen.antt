@@ -2,10 +2,11 @@
 -- Assumes nothing.
 use Prim.Native.Nat.{ℕ, _<_}
 use mathlib.Core.Path.{_≡_, refl}
-use mathlib.Core.Bool.{false, false≢true}
+use mathlib.Core.Bool.{true, false, false≢true}
 use mathlib.Core.List.{[], _∷_}
 use lib.ListN.{length, getD}
 use Rattle.laws.proofs.Every.{agree}
+use Rattle.value.specs.Format.{formatValid}
 use Rattle.retry.specs.Machine.{atCall}
 use Rattle.retry.specs.Byte.{byteOf, machineOf, byteAtCall, byteTrips}
 use Rattle.retry.specs.Machines.{allAtCall, allValid, anyTrips}
@@ -17,7 +18,7 @@ use Rattle.page.specs.declared.PageChoice.{PageChoice}
 use Rattle.page.specs.Choice.{usualPage, pageGranted, chosenLimits, chosenPage}
 use Rattle.page.specs.Causes.{presentCauses, presentWarnings, crossed, tripsAtOnce}
 use Rattle.page.specs.Latching.{caused}
-use Rattle.page.specs.Settings.{validOperation, pageValid}
+use Rattle.page.specs.Settings.{validOperation, formatsValid, pageValid}
 use Rattle.page.specs.Status.{reading}
 use Rattle.page.proofs.Settled.{UpToDate, quiet, none-caused, powered-steady}
 
@@ -31,6 +32,10 @@ pub record Sized (p : Page) : Type 0 where
 pub usual-page : chosenPage usualPage ≡ powerOnPage
 unfolding chosenPage chosenLimits powerOnPage causes warnings
 usual-page = refl
+
+pub usual-page-granted : pageGranted usualPage ≡ true
+unfolding pageGranted formatsValid formatValid
+usual-page-granted = refl
 
 module _ (c : PageChoice) where
   pub chosen-valid : pageValid (chosenPage c) ≡ pageGranted c

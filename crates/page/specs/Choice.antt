@@ -15,6 +15,10 @@ use Rattle.page.specs.Settings.{formatsValid}
 abbrev pub usualPage : PageChoice
 usualPage = record { formats = linearFormat ∷ linearFormat ∷ linearFormat ∷ []; limits = 0 ∷ 0 ∷ 0 ∷ 0 ∷ 0 ∷ 0 ∷ [] }
 
+-- what stands past the end of a list of choices
+abbrev pub noChoice : PageChoice
+noChoice = record { formats = []; limits = [] }
+
 -- the choices that power-on grants: under a DIRECT mark the coefficients are valid
 unfoldable pub pageGranted : PageChoice → Bool
 pageGranted c = formatsValid (c .formats)

@@ -4,7 +4,7 @@
 ghost use mathlib.Core.Path.{_≡_};
 ghost use mathlib.Core.Bool.{cond};
 ghost use Rattle.page.specs.Page.{powerOnPage};
-ghost use Rattle.page.specs.Choice.{chosenLimits, chosenPage};
+ghost use Rattle.page.specs.Choice.{pageGranted, chosenLimits, chosenPage};
 use value::format::Format;
 
 pub mod causes; // causes.rt: which causes and warnings are present, and what they leave on the page
@@ -96,6 +96,14 @@ fn chosen_limits(c: PageChoice) -> [u16; 11]
     let ov = limit_at(input, c.limits[4], 0xD3FF);
     let uv = limit_at(input, c.limits[5], 0xC3F5);
     [0x2A3D, oc, ot, ut, ov, uv, 0x2A3D, oc, ot, ov, uv]
+}
+
+// Whether power-on grants a choice.
+pub fn page_granted(c: PageChoice) -> bool
+    ensures { λ r. ⌜ r ≡ pageGranted c ⌝ }
+{
+    let formats = c.formats;
+    settings::formats_valid(formats)
 }
 
 // The page as power-on leaves it by a choice.

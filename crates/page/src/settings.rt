@@ -20,7 +20,7 @@ pub fn valid_response(k: u8, x: u8) -> bool
 }
 
 // Under each DIRECT mark the coefficients are valid.
-fn formats_valid(formats: [Format; 3]) -> bool
+pub fn formats_valid(formats: [Format; 3]) -> bool
     ensures { λ r. ⌜ r ≡ formatsValid formats ⌝ }
 {
     let iout = formats[0];
