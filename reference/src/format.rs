@@ -70,6 +70,20 @@ impl Format {
         }
     }
 
+    /// The order of two words of this format. With any R that is the order of Y, or its
+    /// reverse where m is below 0; with m 0 all words are equal.
+    pub(crate) fn order_of(&self, word: u16, other: u16) -> Ordering {
+        if self.valid() {
+            return order((*self, word), (*self, other));
+        }
+        let order = (word as i16).cmp(&(other as i16));
+        match self.m.cmp(&0) {
+            Ordering::Less => order.reverse(),
+            Ordering::Equal => Ordering::Equal,
+            Ordering::Greater => order,
+        }
+    }
+
     /// The five bytes of COEFFICIENTS behind its count.
     fn bytes(&self) -> [u8; 5] {
         let [m_low, m_high] = self.m.to_le_bytes();

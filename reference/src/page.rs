@@ -2,7 +2,7 @@
 //! and whether it supplies (data sheet, sections 6 and 7).
 
 use crate::command::code;
-use crate::format::{self, Format};
+use crate::format::Format;
 use crate::linear11;
 use crate::machine::{self, Machine};
 use std::cmp::Ordering;
@@ -240,15 +240,15 @@ impl Page {
     }
 
     /// Whether the latest measurement lies strictly past a limit. Word and limit have
-    /// the quantity's format; without a valid one they have no value, and nothing is past.
+    /// the quantity's format, valid or not.
     fn past(&self, watch: &Watch, limit: u16) -> bool {
         let reading = self.readings[watch.quantity];
         let format = self.format(watch.quantity);
         let place = match watch.quantity {
-            VOUT => Ok(linear11::order_vout(reading.word, limit)),
-            _ => format::compare((format, reading.word), (format, limit)),
+            VOUT => linear11::order_vout(reading.word, limit),
+            _ => format.order_of(reading.word, limit),
         };
-        reading.measured && place == Ok(watch.side)
+        reading.measured && place == watch.side
     }
 
     /// Whether some present cause has the action "off while the fault lasts".
