@@ -7,7 +7,7 @@
  * Numbers such as 7.6 are clauses of docs/DATASHEET.md.
  *
  * What the caller owes:
- *   - A pointer is not NULL, not even beside a length of 0, and that many bytes, or page records, stand behind it.
+ *   - A pointer is not NULL, not even beside a length of 0, and that many bytes, page records or choices stand behind it.
  *   - A buffer that is written overlaps no other argument, and nothing else uses it while the function runs.
  *   - A bool holds 0 or 1. Every other field may hold anything (12.1).
  * The functions keep nothing between calls and share nothing, so they may run in any number of threads and in signal handlers.

@@ -204,6 +204,13 @@ fn supplies() {
             .pages
             .iter_mut()
             .for_each(states::without_iout_oc_machine);
+        // A page that nothing but a present cause keeps off, in a format that gets 15 half of the time.
+        let page = &mut device.pages[random.below(8)];
+        (page.operation, page.tripped) = (0x80, false);
+        (page.machines, page.responses) = ([0; 6], [0xC0; 6]);
+        if random.bool() {
+            page.formats[random.below(3)] = states::invalid_format(&mut random);
+        }
         let pages = mirror::to_reference(&device).pages;
         for page in 0..=u8::MAX {
             let expected = pages.get(usize::from(page)).is_some_and(|p| p.supplies());
