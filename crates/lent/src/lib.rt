@@ -168,8 +168,8 @@ pub extern "C" fn tongsorrel_lent_supplies(pages: &[Page], i: u8) -> bool
 
 // The layout of `Unpaged`, `Page` and `Outcome` has a number, which stands in this name: a program made for another does not link.
 #[no_mangle]
-pub extern "C" fn tongsorrel_lent_layout_1() -> u32
-    ensures { λ r. ⌜ r ≡ 1 ⌝ }
+pub extern "C" fn tongsorrel_lent_layout_2() -> u32
+    ensures { λ r. ⌜ r ≡ 2 ⌝ }
 {
-    1
+    2
 }
