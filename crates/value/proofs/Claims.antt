@@ -1,4 +1,4 @@
--- The claims on values: Linear11 words in document 01's order, DIRECT values by PMBus's formula, fractions by cross products, and examples.
+-- The claims on values: Linear11 words in the order of data sheet 5.5, DIRECT values by PMBus's formula, fractions by cross products, and examples.
 -- Assumes nothing.
 use mathlib.Core.Path.{_≡_, refl, sym, ap, ap₂, _∙_}
 use mathlib.Core.Bool.{true, false}

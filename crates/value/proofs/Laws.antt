@@ -65,7 +65,7 @@ cross w c h =
     times-times (linearNum w) c 65536 ∙ ap (λ (n : ℕ). linearNum w *ℤ pos n) (mul-comm c 65536) ∙ sym (times-times (linearNum w) 65536 c)
     ∙ ap (λ (z : ℤ). z *ℤ pos c) (linear-means w h) ∙ times-times (scaledOf w) (linearDen w) c
 
--- the order of two Linear11 fractions is document 01's order of the words
+-- the order of two Linear11 fractions is the order of data sheet 5.5 of the words
 pub linear-agrees : (a b : ℕ) → a < 65536 → b < 65536
     → orderOf (linearNum a *ℤ pos (linearDen b)) (linearNum b *ℤ pos (linearDen a)) ≡ linearOrder a b
 unfolding linearOrder

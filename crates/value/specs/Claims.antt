@@ -13,7 +13,7 @@ use Rattle.value.specs.declared.format.Format.{Format}
 use Rattle.value.specs.Value.{ratioOrder}
 use Rattle.value.specs.Format.{linearFormat, signedWord, signedByte, valueOf, valueOrder, formatValid, comparison}
 
--- Linear11 words are in document 01's order (data sheet 5.5), whatever coefficients stand beside the mark
+-- Linear11 words are in the order of data sheet 5.5, whatever coefficients stand beside the mark
 unfoldable pub LinearAgrees : Type 0
 LinearAgrees =
     (f g : Format) (a b : ℕ) → f .direct ≡ false → g .direct ≡ false → a < 65536 → b < 65536 → valueOrder f a g b ≡ linearOrder a b
