@@ -6,13 +6,13 @@ use mathlib.Core.List.{List}
 use native.Mathlib.Omega.{arith}
 use lib.ListN.{length, getD, set}
 use Rattle.page.specs.declared.Page.{Page}
-use Rattle.layout.specs.Layout.{partForm, accountForm, unpagedForm, pageForm, deviceForm, stateForm, pagesIn, pageWide, pagesFrom, size}
+use Rattle.layout.specs.Layout.{partForm, accountForm, unpagedForm, formatForm, pageForm, deviceForm, stateForm, pagesIn, pageWide, pagesFrom, size}
 use Rattle.layout.proofs.Laws.{page-back}
 use Rattle.layout.proofs.Places.{page-local, store-length, get-at, array-set}
 use Rattle.layout.proofs.Shapes.{Shape, shape-fits, got-shape}
 
 pub wide : pageForm .width ≡ pageWide
-unfolding pageForm
+unfolding pageForm formatForm
 wide = refl
 
 pub unpaged-wide : unpagedForm .width ≡ 12
@@ -24,7 +24,7 @@ unfolding partForm
 part-wide = refl
 
 pub whole-wide : stateForm .width ≡ size
-unfolding stateForm partForm deviceForm unpagedForm accountForm pageForm
+unfolding stateForm partForm deviceForm unpagedForm accountForm pageForm formatForm
 whole-wide = refl
 
 module _ (s : List ℕ) (k : ℕ) (h : k < 8) where

@@ -11,7 +11,7 @@ use lib.Seq.{getD-append-seam, getD-append-add, set-append-seam, append-snoc, le
 use lib.Dec.{eqb}
 use Rattle.unpaged.specs.declared.Unpaged.{Unpaged}
 use Rattle.layout.specs.Form.{Form, storeByte, storeWord, storeMark, octet, word, mark, both, array, via, putAll, getAll, storeAll, FitAll}
-use Rattle.layout.specs.Layout.{partFields, partTo, partFrom, partForm, longTo, longFrom, long, accountFields, accountTo, accountFrom, accountForm, unpagedFields, unpagedTo, unpagedFrom, unpagedForm, settingFields, valueFields, pageTo, pageFrom, pageForm, deviceTo, deviceFrom, deviceForm, stateTo, stateFrom, stateForm}
+use Rattle.layout.specs.Layout.{partFields, partTo, partFrom, partForm, longTo, longFrom, long, accountFields, accountTo, accountFrom, accountForm, unpagedFields, unpagedTo, unpagedFrom, unpagedForm, settingFields, valueFields, formatFields, formatTo, formatFrom, formatForm, pageFields, pageTo, pageFrom, pageForm, deviceTo, deviceFrom, deviceForm, stateTo, stateFrom, stateForm}
 
 -- the value stands between any bytes a and b
 pub record Back {A : Type 0} (f : Form A) : Type 0 where
@@ -206,9 +206,19 @@ values-back : Back valueFields
 values-back =
     both-back _ _ (array-back word word-back 4) (both-back _ _ (array-back mark mark-back 4) (both-back _ _ (array-back octet octet-back 4) mark-back))
 
+format-back : Back formatForm
+unfolding formatForm
+format-back =
+    via-back formatTo formatFrom formatFields
+    (both-back mark (both word (both word octet)) mark-back (both-back word (both word octet) word-back (both-back word octet word-back octet-back)))
+    (λ f. refl)
+
+formats-back : Back (both valueFields (array 3 formatForm))
+formats-back = both-back valueFields (array 3 formatForm) values-back (array-back formatForm format-back 3)
+
 pub page-back : Back pageForm
 unfolding pageForm
-page-back = via-back pageTo pageFrom (both settingFields valueFields) (both-back settingFields valueFields settings-back values-back) (λ p. refl)
+page-back = via-back pageTo pageFrom pageFields (both-back settingFields (both valueFields (array 3 formatForm)) settings-back formats-back) (λ p. refl)
 
 pub device-back : Back deviceForm
 unfolding deviceForm

@@ -10,7 +10,7 @@ use lib.ListN.{length, getD, set, take, drop, length-append, length-drop, take-a
 use lib.Seq.{length-take-le, take-add, getD-append-add, getD-take, getD-drop}
 use lib.Dec.{eqb}
 use Rattle.layout.specs.Form.{Form, octet, word, mark, both, array, via, getAll}
-use Rattle.layout.specs.Layout.{partFields, partTo, partFrom, partForm, longTo, longFrom, long, accountFields, accountTo, accountFrom, accountForm, unpagedFields, unpagedTo, unpagedFrom, unpagedForm, settingFields, valueFields, pageTo, pageFrom, pageForm, deviceTo, deviceFrom, deviceForm}
+use Rattle.layout.specs.Layout.{partFields, partTo, partFrom, partForm, longTo, longFrom, long, accountFields, accountTo, accountFrom, accountForm, unpagedFields, unpagedTo, unpagedFrom, unpagedForm, settingFields, valueFields, formatFields, formatTo, formatFrom, formatForm, pageFields, pageTo, pageFrom, pageForm, deviceTo, deviceFrom, deviceForm}
 use Rattle.layout.proofs.Laws.{Back}
 
 -- ---- reading looks at the bytes of the place alone
@@ -80,12 +80,20 @@ settings-local = both-local _ _ octet-local (both-local _ _ word-local (both-loc
 values-local : Local valueFields
 values-local = both-local _ _ (all-local word word-local 4) (both-local _ _ (all-local mark mark-local 4) (both-local _ _ (all-local octet octet-local 4) mark-local))
 
-page-fields-local : Local (both settingFields valueFields)
-page-fields-local = both-local settingFields valueFields settings-local values-local
+format-local : Local formatForm
+unfolding formatForm
+format-local =
+    via-local formatTo formatFrom formatFields
+    (both-local mark (both word (both word octet)) mark-local (both-local word (both word octet) word-local (both-local word octet word-local octet-local)))
+
+page-fields-local : Local pageFields
+page-fields-local =
+    both-local settingFields (both valueFields (array 3 formatForm)) settings-local
+    (both-local valueFields (array 3 formatForm) values-local (all-local formatForm format-local 3))
 
 pub page-local : Local pageForm
 unfolding pageForm
-page-local = via-local pageTo pageFrom (both settingFields valueFields) page-fields-local
+page-local = via-local pageTo pageFrom pageFields page-fields-local
 
 device-fields-local : Local (both unpagedForm (array 8 pageForm))
 device-fields-local = both-local unpagedForm (array 8 pageForm) unpaged-local (all-local pageForm page-local 8)

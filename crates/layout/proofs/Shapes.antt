@@ -1,12 +1,13 @@
 -- A page whose arrays have the lengths of the code's arrays fits its place in a buffer.
 -- Assumes nothing.
-use Prim.Native.Nat.{ℕ}
+use Prim.Native.Nat.{ℕ, _+_}
 use mathlib.Core.Path.{_≡_, refl}
 use mathlib.Core.List.{List, [], _∷_}
-use lib.ListN.{length}
+use native.Mathlib.Omega.{arith}
+use lib.ListN.{length, getD}
 use Rattle.page.specs.declared.Page.{Page}
-use Rattle.layout.specs.Form.{Form, octet, word, mark, FitAll}
-use Rattle.layout.specs.Layout.{pageForm}
+use Rattle.layout.specs.Form.{Form, octet, word, mark, storeAll, FitAll}
+use Rattle.layout.specs.Layout.{formatForm, pageForm}
 
 pub record Shape (p : Page) : Type 0 where
   pub limits : length (p .limits) ≡ 11
@@ -15,19 +16,32 @@ pub record Shape (p : Page) : Type 0 where
   pub words : length (p .words) ≡ 4
   pub measured : length (p .measured) ≡ 4
   pub status : length (p .status) ≡ 4
+  pub formats : length (p .formats) ≡ 3
 
 pub all-fit : {A : Type 0} (f : Form A) → ((x : A) → f .Fits x) → (l : List A) → FitAll f l
 all-fit f h [] = tt
 all-fit f h (x ∷ l) = (h x, all-fit f h l)
 
+-- an array of three, stored one after the other
+pub three-stored : {A : Type 0} (f : Form A) (s : List ℕ) (o : ℕ) (l : List A) (d : A) → length l ≡ 3
+    → f .store (f .store (f .store s o (getD l 0 d)) (o + f .width) (getD l 1 d)) (o + f .width + f .width) (getD l 2 d) ≡ storeAll f s o l
+three-stored f s o [] d e = absurd (omega arith)
+three-stored f s o (x ∷ []) d e = absurd (omega arith)
+three-stored f s o (x ∷ y ∷ []) d e = absurd (omega arith)
+three-stored f s o (x ∷ y ∷ z ∷ []) d e = refl
+three-stored f s o (x ∷ y ∷ z ∷ w ∷ l) d e = absurd (omega arith)
+
 pub shape-fits : (p : Page) → Shape p → pageForm .Fits p
-unfolding pageForm
+unfolding pageForm formatForm
 shape-fits p h = (
   (tt, (tt, ((h .limits, all-fit word (λ x. tt) (p .limits)), ((h .responses, all-fit octet (λ x. tt) (p .responses)), (h .machines, all-fit octet (λ x. tt) (p .machines)))))),
-  ((h .words, all-fit word (λ x. tt) (p .words)), ((h .measured, all-fit mark (λ x. tt) (p .measured)), ((h .status, all-fit octet (λ x. tt) (p .status)), tt))),
+  (
+    ((h .words, all-fit word (λ x. tt) (p .words)), ((h .measured, all-fit mark (λ x. tt) (p .measured)), ((h .status, all-fit octet (λ x. tt) (p .status)), tt))),
+    (h .formats, all-fit formatForm (λ x. (tt, (tt, (tt, tt)))) (p .formats)),
+  ),
 )
 
 -- every page that is read from a buffer
 pub got-shape : (s : List ℕ) (o : ℕ) → Shape (pageForm .get s o)
 unfolding pageForm
-got-shape s o = record { limits = refl; responses = refl; machines = refl; words = refl; measured = refl; status = refl }
+got-shape s o = record { limits = refl; responses = refl; machines = refl; words = refl; measured = refl; status = refl; formats = refl }

@@ -4,6 +4,7 @@ use Prim.Native.Nat.{ℕ, _+_, _*_, _/_, _%_}
 use mathlib.Core.Bool.{Bool}
 use mathlib.Core.List.{List}
 use Rattle.account.specs.declared.Account.{Account}
+use Rattle.value.specs.declared.format.Format.{Format}
 use Rattle.page.specs.declared.Page.{Page}
 use Rattle.unpaged.specs.declared.Unpaged.{Unpaged}
 use Rattle.bus.specs.declared.Part.{Part}
@@ -88,31 +89,56 @@ ValueFields = List ℕ × (List Bool × (List ℕ × Bool))
 abbrev pub valueFields : Form ValueFields
 valueFields = both (array 4 word) (both (array 4 mark) (both (array 4 octet) mark))
 
+-- ---- the formats of a page
+
+abbrev pub FormatFields : Type 0
+FormatFields = Bool × (ℕ × (ℕ × ℕ))
+
+abbrev pub formatFields : Form FormatFields
+formatFields = both mark (both word (both word octet))
+
+abbrev pub formatTo : Format → FormatFields
+formatTo f = (f .direct, (f .m, (f .b, f .r)))
+
+abbrev pub formatFrom : FormatFields → Format
+formatFrom x = record { direct = x .0; m = x .1 .0; b = x .1 .1 .0; r = x .1 .1 .1 }
+
+-- the mark of DIRECT, m, b, R: 6 bytes
+unfoldable pub formatForm : Form Format
+formatForm = via formatTo formatFrom formatFields
+
 abbrev pub settingsTo : Page → SettingFields
 settingsTo p = (p .operation, (p .command, (p .limits, (p .responses, p .machines))))
 
 abbrev pub valuesTo : Page → ValueFields
 valuesTo p = (p .words, (p .measured, (p .status, p .tripped)))
 
-abbrev pub pageTo : Page → SettingFields × ValueFields
-pageTo p = (settingsTo p, valuesTo p)
+abbrev pub PageFields : Type 0
+PageFields = SettingFields × (ValueFields × List Format)
 
-abbrev pub pageFrom : SettingFields × ValueFields → Page
+abbrev pub pageFields : Form PageFields
+pageFields = both settingFields (both valueFields (array 3 formatForm))
+
+abbrev pub pageTo : Page → PageFields
+pageTo p = (settingsTo p, (valuesTo p, p .formats))
+
+abbrev pub pageFrom : PageFields → Page
 pageFrom x = record {
   operation = x .0 .0;
   command = x .0 .1 .0;
   limits = x .0 .1 .1 .0;
   responses = x .0 .1 .1 .1 .0;
   machines = x .0 .1 .1 .1 .1;
-  words = x .1 .0;
-  measured = x .1 .1 .0;
-  status = x .1 .1 .1 .0;
-  tripped = x .1 .1 .1 .1;
+  words = x .1 .0 .0;
+  measured = x .1 .0 .1 .0;
+  status = x .1 .0 .1 .1 .0;
+  tripped = x .1 .0 .1 .1 .1;
+  formats = x .1 .1;
 }
 
--- 54 bytes
+-- 72 bytes
 unfoldable pub pageForm : Form Page
-pageForm = via pageTo pageFrom (both settingFields valueFields)
+pageForm = via pageTo pageFrom pageFields
 
 -- ---- the whole state
 
@@ -122,7 +148,7 @@ deviceTo d = (d .unpaged, d .pages)
 abbrev pub deviceFrom : Unpaged × List Page → Device
 deviceFrom x = record { unpaged = x .0; pages = x .1 }
 
--- 444 bytes
+-- 588 bytes
 unfoldable pub deviceForm : Form Device
 deviceForm = via deviceTo deviceFrom (both unpagedForm (array 8 pageForm))
 
@@ -137,7 +163,7 @@ stateForm = via stateTo stateFrom (both partForm deviceForm)
 
 -- the length of a state buffer, where its pages begin, and the pages that stand there
 abbrev pub size : ℕ
-size = 466
+size = 610
 
 abbrev pub pagesFrom : ℕ
 pagesFrom = 34
@@ -146,7 +172,7 @@ abbrev pub unpagedAt : ℕ
 unpagedAt = 22
 
 abbrev pub pageWide : ℕ
-pageWide = 54
+pageWide = 72
 
 abbrev pub pagesIn : List ℕ → List Page
 pagesIn s = array 8 pageForm .get s pagesFrom

@@ -1,0 +1,36 @@
+-- `layout::format_record::load_formats` meets its contract.
+-- Assumes nothing.
+use Rattle.layout.specs.Layout.{formatForm}
+use borrow.Author.Needs.{needs}
+use Rattle.layout.proofs.format_record.load_formats.Statement.{statement}
+use Rattle.layout.proofs.format_record.load_formats.Tie as tie
+
+load-format-requires : tie.Need-load-format-requires
+load-format-requires c κs = search needs
+
+add-o1 : tie.Need-add-o1
+add-o1 c = search needs
+
+load-format-requires-2 : tie.Need-load-format-requires-2
+load-format-requires-2 c κs = search needs
+
+add-o2 : tie.Need-add-o2
+add-o2 c = search needs
+
+load-format-requires-3 : tie.Need-load-format-requires-3
+load-format-requires-3 c κs = search needs
+
+returns : tie.Need-returns
+unfolding formatForm
+returns c = simp (c .before .before .load-format .ensures, c .before .load-format2 .ensures, c .load-format3 .ensures)
+
+pub load-formats-spec : {M : Type 1} → statement M
+load-formats-spec =
+    tie.close
+    (tie.spec
+    load-format-requires
+    add-o1
+    load-format-requires-2
+    add-o2
+    load-format-requires-3
+    returns)
