@@ -76,6 +76,7 @@ module _ (c : ℕ) (bytes more : List ℕ) where
   data-alone (Reading q) e = refl
   data-alone Revision e = refl
   data-alone Absent e = refl
+  data-alone Coefficients e = refl
 
 module _ (code : ℕ) (bytes : List ℕ) (b : code < 256) (e : length bytes ≡ lookup code .length) where
   by-row : length bytes ≡ rowOf code (commandOf code) .2
