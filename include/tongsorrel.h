@@ -10,13 +10,14 @@
  * Numbers such as 7.6 are clauses of docs/DATASHEET.md.
  *
  * What the caller owes:
- *   - A pointer is not NULL, not even beside a length of 0, and that many bytes, or page records, stand behind it.
+ *   - A pointer is not NULL, not even beside a length of 0, and that many bytes, page records or choices stand behind it.
  *   - A buffer that is written overlaps no other argument, and nothing else uses it while the function runs.
  *   - A bool holds 0 or 1. Every other field may hold anything (12.1).
  * The functions keep nothing between calls and share nothing, so they may run in any number of threads and in signal handlers.
  *
  * Stack: a call takes at most TONGSORREL_STACK bytes from its return address down. The caller's own copies come on top: a device handed
- * over has 460 bytes, a result 464. tests/stack.c measures it on a painted stack, over every code, length and answer. */
+ * over has 652 bytes, a result 656, choices for eight pages 288. tests/stack.c measures it on a painted stack, over every code, length and
+ * answer. */
 #ifndef TONGSORREL_H
 #define TONGSORREL_H
 
@@ -32,15 +33,15 @@
 extern "C" {
 #endif
 
-#define TONGSORREL_STACK 2048
+#define TONGSORREL_STACK 2560
 
-/* The version, and the number of the layout of all structs and of the state buffer. The number stands in the names of three functions,
- * one of each archive: a program that calls the one of its archive, as the examples do, does not link with an archive of another layout. */
-#define TONGSORREL_VERSION "0.9"
-#define TONGSORREL_LAYOUT 1
-uint32_t tongsorrel_layout_1(void);
-uint32_t tongsorrel_lent_layout_1(void);
-uint32_t tongsorrel_host_layout_1(void);
+/* The version, and the number of the layout of all structs and of the state buffer. The number stands in the names of three functions, one
+ * of each archive: a program that calls the one of its archive, as the examples do, does not link with an archive of another layout. */
+#define TONGSORREL_VERSION "0.10"
+#define TONGSORREL_LAYOUT 2
+uint32_t tongsorrel_layout_2(void);
+uint32_t tongsorrel_lent_layout_2(void);
+uint32_t tongsorrel_host_layout_2(void);
 
 /* ---- names */
 
@@ -74,6 +75,7 @@ enum {
     TONGSORREL_TOTAL_FULL = 24,
     TONGSORREL_OUT_OF_RANGE = 25,
     TONGSORREL_NO_ROOM = 26,
+    TONGSORREL_INVALID_FORMAT = 27,
 };
 
 /* Command codes (3.1). */
@@ -85,6 +87,7 @@ enum {
     TONGSORREL_CODE_CAPABILITY = 0x19,
     TONGSORREL_CODE_VOUT_MODE = 0x20,
     TONGSORREL_CODE_VOUT_COMMAND = 0x21,
+    TONGSORREL_CODE_COEFFICIENTS = 0x30,
     TONGSORREL_CODE_VOUT_OV_FAULT_LIMIT = 0x40,
     TONGSORREL_CODE_VOUT_OV_FAULT_RESPONSE = 0x41,
     TONGSORREL_CODE_VOUT_OV_WARN_LIMIT = 0x42,
@@ -119,6 +122,13 @@ enum {
 
 /* Data of PAGE beside 0 to 7: every page (3.8). */
 enum { TONGSORREL_EVERY_PAGE = 0xFF };
+
+/* The bytes of COEFFICIENTS between its code and C1h: the count, a code, and one of these directions (20.6, 20.7). */
+enum {
+    TONGSORREL_COEFFICIENTS_COUNT = 2,
+    TONGSORREL_TO_ENCODE = 0x00, /* what the code writes */
+    TONGSORREL_TO_DECODE = 0x01, /* what it reads */
+};
 
 /* Data of OPERATION (3.5). */
 enum {
@@ -180,7 +190,7 @@ enum {
 /* Bits of STATUS_CML, with the answers that set them (6.9). */
 enum {
     TONGSORREL_CML_COMMAND_BIT = 0x80, /* 3, 8: unsupported command, protected */
-    TONGSORREL_CML_DATA_BIT = 0x40,    /* 6, 9: too many data; invalid data, or a paged code read under PAGE FFh */
+    TONGSORREL_CML_DATA_BIT = 0x40,    /* 6, 9: too many data; invalid data, a paged code read under PAGE FFh, no coefficients to send */
     TONGSORREL_CML_PEC_BIT = 0x20,     /* 7: wrong PEC */
     TONGSORREL_CML_OTHER_BIT = 0x02,   /* 5, 10, 11: too few data, read too short or too long */
 };
@@ -215,9 +225,17 @@ enum {
     TONGSORREL_LIMITS = 11,
 };
 
+/* The places in formats (20.1): of IOUT, VIN and temperature. VOUT has none. */
+enum {
+    TONGSORREL_IOUT_FORMAT = 0,
+    TONGSORREL_VIN_FORMAT = 1,
+    TONGSORREL_TEMPERATURE_FORMAT = 2,
+    TONGSORREL_FORMATS = 3,
+};
+
 enum { TONGSORREL_PAGES = 8 };
 
-/* ---- packet check and Linear11 values */
+/* ---- packet check and values */
 
 /* The packet check (PEC) of the bytes of a transaction, address bytes included (2.5, 2.6). */
 uint8_t tongsorrel_pec(const uint8_t *bytes, uint64_t length);
@@ -235,6 +253,24 @@ enum {
     TONGSORREL_ABOVE = 2,
 };
 uint8_t tongsorrel_linear11_compare(uint16_t a, uint16_t b);
+
+/* The format of a quantity's words: Linear11, or where direct is set DIRECT, (Y / 10^r - b) / m for the word Y, with Y, m, b and r in two's
+ * complement (20.1). Valid is every linear one, and DIRECT with m other than 0 and r from -6 to 6, that is 0 to 6 or 0xFA to 0xFF
+ * (20.2). */
+typedef struct tongsorrel_format {
+    bool direct;
+    uint16_t m;
+    uint16_t b;
+    uint8_t r;
+} tongsorrel_format;
+
+/* How the value of the word a in one format stands to that of b in another, exactly (20.5): TONGSORREL_BELOW, EQUAL or ABOVE. Answers 0,
+ * and 27 where a format is not valid; order is then TONGSORREL_EQUAL and means nothing. */
+typedef struct tongsorrel_compared {
+    uint8_t answer;
+    uint8_t order;
+} tongsorrel_compared;
+tongsorrel_compared tongsorrel_compare(tongsorrel_format format_a, uint16_t a, tongsorrel_format format_b, uint16_t b);
 
 /* ---- the device */
 
@@ -260,7 +296,7 @@ typedef struct tongsorrel_unpaged {
 } tongsorrel_unpaged;
 
 /* One supply. limits by cause and warning; responses by cause, and machines, which try again, each a byte of 0 to 64 (7.12); words (the
- * latest, where measured says so), measured and status by quantity. */
+ * latest, where measured says so), measured and status by quantity; formats, which power-on alone sets (20.3). */
 typedef struct tongsorrel_page {
     uint8_t operation;
     uint16_t vout_command;
@@ -271,6 +307,7 @@ typedef struct tongsorrel_page {
     bool measured[TONGSORREL_QUANTITIES];
     uint8_t status[TONGSORREL_QUANTITIES];
     bool tripped;
+    tongsorrel_format formats[TONGSORREL_FORMATS];
 } tongsorrel_page;
 
 typedef struct tongsorrel_device {
@@ -283,14 +320,29 @@ typedef struct tongsorrel_done {
     uint8_t answer;
 } tongsorrel_done;
 
-/* The state that power-on leaves (1.4). */
+/* The state that power-on leaves, all linear (1.4). */
 tongsorrel_device tongsorrel_power_on(void);
+
+/* What is chosen for a page at power-on (20.3): its formats, and its fault limits by cause. Limits of VOUT and of linear quantities are
+ * passed over, and start as without a choice; warn limits start as the fault limits do. */
+typedef struct tongsorrel_page_choice {
+    tongsorrel_format formats[TONGSORREL_FORMATS];
+    uint16_t limits[TONGSORREL_CAUSES];
+} tongsorrel_page_choice;
+
+typedef struct tongsorrel_choices {
+    tongsorrel_page_choice pages[TONGSORREL_PAGES];
+} tongsorrel_choices;
+
+/* Power-on by a choice for each page. Answers 0, and 27 where a format is not valid: the device is then all linear (20.4). */
+tongsorrel_done tongsorrel_power_on_by(tongsorrel_choices choices);
 
 /* A write transaction: the bytes from START to STOP, address byte first. Answers 0, 1, 2, 3, 5 to 9, 15 (11.2). */
 tongsorrel_done tongsorrel_write(tongsorrel_device device, const uint8_t *bytes, uint64_t length);
 
-/* A read transaction: the header C0h, code, C1h, and a reply buffer of n bytes, n being the number of bytes that the host clocks. All n
- * bytes are written (2.9). Answers 0, 1, 2, 3, 9 (a paged code under PAGE FFh: 3.8), 10, 11, 15 (11.3). */
+/* A read transaction: the header C0h, code, C1h, or that of COEFFICIENTS (20.6), and a reply buffer of n bytes, n being the number of bytes
+ * that the host clocks. All n bytes are written (2.9). Answers 0, 1, 2, 3, 9 (a paged code under PAGE FFh: 3.8; no coefficients: 20.8), 10,
+ * 11, 15 (11.3). */
 tongsorrel_done tongsorrel_read(tongsorrel_device device, const uint8_t *header, uint64_t header_length, uint8_t *reply, uint64_t n);
 
 /* A measurement: the latest word of a quantity on a page (5.6), which is 0 to 7 whatever PAGE is. Answers 0, 12, 15. */
@@ -328,6 +380,10 @@ typedef struct tongsorrel_outcome {
 /* Sets every record to its power-on values, whatever it held. Answers 0, 15: with 15 no record is touched, and the unpaged part that comes
  * back is that of power-on. */
 tongsorrel_outcome tongsorrel_lent_power_on(tongsorrel_page *pages, uint64_t number);
+
+/* The same by a choice for each record, as many as records (16.4, 20.4). Answers 0, 15, 27: with 27 every record is set, all linear. */
+tongsorrel_outcome tongsorrel_lent_power_on_by(tongsorrel_page *pages, uint64_t number, const tongsorrel_page_choice *choices,
+                                               uint64_t number_of_choices);
 
 /* As tongsorrel_write: changes the record that PAGE selects, or under FFh any of them. */
 tongsorrel_outcome tongsorrel_lent_write(tongsorrel_unpaged unpaged, tongsorrel_page *pages, uint64_t number, const uint8_t *bytes,
@@ -368,7 +424,10 @@ bool tongsorrel_lent_supplies(const tongsorrel_page *pages, uint64_t number, uin
  * Any other order is taken too: it is a breach, and changes nothing (17.8). tongsorrel_stream_measure, _sample, _tick and _alert_response
  * may come between any two of them (17.7). */
 
-enum { TONGSORREL_STREAM_SIZE = 466 };
+enum {
+    TONGSORREL_STREAM_SIZE = 610,
+    TONGSORREL_STREAM_CHOICES = 240,
+};
 
 enum {
     TONGSORREL_NACK = 0,
@@ -377,6 +436,11 @@ enum {
 
 /* Power-on: sets every byte of the buffer, whatever it held. Answers 0, 15. */
 uint8_t tongsorrel_stream_power_on(uint8_t *state, uint64_t length);
+
+/* The same by a choice for each page, in TONGSORREL_STREAM_CHOICES bytes, 30 for a page: three formats of a mark, m, b and r in 1, 2, 2 and
+ * 1 bytes, and six limits of 2, low bytes first; a mark is 0, or any other byte for DIRECT. Answers 0, 15 (no byte of the state is
+ * touched), and 27 for a format that is not valid or another number of bytes: all linear (20.3, 20.4). */
+uint8_t tongsorrel_stream_power_on_by(uint8_t *state, uint64_t length, const uint8_t *choices, uint64_t length_of_choices);
 
 /* START begins a transaction and drops one that had no STOP (17.9). Answers 0, 15. */
 uint8_t tongsorrel_stream_start(uint8_t *state, uint64_t length);
@@ -430,10 +494,10 @@ tongsorrel_taken tongsorrel_totalizer_take(tongsorrel_totalizer totalizer, const
 
 /* ---- the host's transactions: libhost.a */
 
-/* For the other end of the bus, without a device (section 18): builds the frame of every write and every read of the table (3.1) in a
- * buffer of the caller's, takes replies apart, and totalizes energy. A frame is all that the host writes, address bytes and PEC among it.
- * Only code, direction and number of data are looked at: a frame that the device will refuse for its data, its page or WRITE_PROTECT is
- * built like any other. */
+/* For the other end of the bus, without a device (section 18): builds the frame of every write and every read of the table (3.1), though
+ * of no process call, in a buffer of the caller's, takes replies apart, and totalizes energy. A frame is all that the host writes, address
+ * bytes and PEC among it. Only code, direction and number of data are looked at: a frame that the device will refuse for its data, its page
+ * or WRITE_PROTECT is built like any other. */
 
 /* Room for every frame, and for every reply, with PEC. */
 enum {
@@ -476,7 +540,8 @@ tongsorrel_taken tongsorrel_host_totalizer_take(tongsorrel_totalizer totalizer, 
 /* ---- numbers for limits: libhost.a */
 
 /* Counts of thousandths as words, and back (section 19): milliamperes, millivolts, thousandths of a degree. There are two formats (5.1):
- * Linear11 for IOUT, VIN and temperature, and unsigned words in units of 2^-13 V for VOUT_COMMAND, READ_VOUT and the limits of VOUT. */
+ * Linear11 for IOUT, VIN and temperature where they are not DIRECT, and unsigned words in units of 2^-13 V for VOUT_COMMAND, READ_VOUT and
+ * the limits of VOUT. */
 
 /* Under an answer other than 0 the word is 0000h. */
 typedef struct tongsorrel_converted {
@@ -522,7 +587,15 @@ TONGSORREL_AT(tongsorrel_unpaged, protect, 1);
 TONGSORREL_AT(tongsorrel_unpaged, cml, 2);
 TONGSORREL_AT(tongsorrel_unpaged, alert, 3);
 TONGSORREL_AT(tongsorrel_unpaged, energy, 4);
-TONGSORREL_SIZE(tongsorrel_page, 56);
+TONGSORREL_SIZE(tongsorrel_format, 8);
+TONGSORREL_AT(tongsorrel_format, direct, 0);
+TONGSORREL_AT(tongsorrel_format, m, 2);
+TONGSORREL_AT(tongsorrel_format, b, 4);
+TONGSORREL_AT(tongsorrel_format, r, 6);
+TONGSORREL_SIZE(tongsorrel_compared, 2);
+TONGSORREL_AT(tongsorrel_compared, answer, 0);
+TONGSORREL_AT(tongsorrel_compared, order, 1);
+TONGSORREL_SIZE(tongsorrel_page, 80);
 TONGSORREL_AT(tongsorrel_page, operation, 0);
 TONGSORREL_AT(tongsorrel_page, vout_command, 2);
 TONGSORREL_AT(tongsorrel_page, limits, 4);
@@ -532,12 +605,18 @@ TONGSORREL_AT(tongsorrel_page, words, 38);
 TONGSORREL_AT(tongsorrel_page, measured, 46);
 TONGSORREL_AT(tongsorrel_page, status, 50);
 TONGSORREL_AT(tongsorrel_page, tripped, 54);
-TONGSORREL_SIZE(tongsorrel_device, 460);
+TONGSORREL_AT(tongsorrel_page, formats, 56);
+TONGSORREL_SIZE(tongsorrel_device, 652);
 TONGSORREL_AT(tongsorrel_device, unpaged, 0);
 TONGSORREL_AT(tongsorrel_device, pages, 12);
-TONGSORREL_SIZE(tongsorrel_done, 464);
+TONGSORREL_SIZE(tongsorrel_done, 656);
 TONGSORREL_AT(tongsorrel_done, device, 0);
-TONGSORREL_AT(tongsorrel_done, answer, 460);
+TONGSORREL_AT(tongsorrel_done, answer, 652);
+TONGSORREL_SIZE(tongsorrel_page_choice, 36);
+TONGSORREL_AT(tongsorrel_page_choice, formats, 0);
+TONGSORREL_AT(tongsorrel_page_choice, limits, 24);
+TONGSORREL_SIZE(tongsorrel_choices, 288);
+TONGSORREL_AT(tongsorrel_choices, pages, 0);
 TONGSORREL_SIZE(tongsorrel_outcome, 16);
 TONGSORREL_AT(tongsorrel_outcome, unpaged, 0);
 TONGSORREL_AT(tongsorrel_outcome, answer, 12);

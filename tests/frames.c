@@ -1,5 +1,5 @@
 /* The library from C: the nine frames of data sheet 13.7 through tongsorrel.h, the fields they leave, ones written to
- * status registers, and an energy reply through the totalizer. */
+ * status registers, an energy reply through the totalizer, and the worked numbers of DIRECT words. */
 #include "tongsorrel.h"
 
 #include <stdio.h>
@@ -150,6 +150,41 @@ static void totalizer(tongsorrel_device device) {
     expect(tongsorrel_totalizer_take(taken.totalizer, reply, sizeof reply).answer == TONGSORREL_WRONG_REPLY_PEC, "a changed copy");
 }
 
+/* The worked numbers of 20.1 and 20.5, and COEFFICIENTS of a limit. */
+static void direct(void) {
+    static const tongsorrel_format linear = {false, 0, 0, 0}, half = {true, 2, (uint16_t)-5, 1}, falling = {true, (uint16_t)-4, 0, 0};
+    tongsorrel_compared found = tongsorrel_compare(half, 0x0352, linear, 45);
+    expect(found.answer == TONGSORREL_DONE && found.order == TONGSORREL_EQUAL, "0352h is 45");
+    expect(tongsorrel_compare(half, 0xFC18, linear, 0xF800 | (-95 & 0x7FF)).order == TONGSORREL_EQUAL, "FC18h is -95/2");
+    expect(tongsorrel_compare(falling, 0xFFCF, falling, 0xFFD0).order == TONGSORREL_ABOVE, "a negative m turns the order");
+    expect(tongsorrel_compare(linear, 45, (tongsorrel_format){true, 0, 0, 0}, 0).answer == TONGSORREL_INVALID_FORMAT, "m 0");
+    tongsorrel_choices choices = {0};
+    choices.pages[3].formats[TONGSORREL_VIN_FORMAT] = falling;
+    choices.pages[3].limits[TONGSORREL_VIN_OV] = 0xFFD0;
+    choices.pages[3].limits[TONGSORREL_VIN_UV] = 0x7FFF;
+    tongsorrel_done done = tongsorrel_power_on_by(choices);
+    expect(done.answer == TONGSORREL_DONE, "power-on by a choice");
+    static const uint16_t words[] = {0xFFD0, 0xFFD1, 0xFFCF};
+    for (size_t i = 0; i < 3; i++) {
+        done = tongsorrel_measure(done.device, 3, TONGSORREL_VIN, words[i]);
+        const uint8_t bits = i == 2 ? TONGSORREL_VIN_OV_FAULT_BIT | TONGSORREL_VIN_OV_WARN_BIT : 0;
+        expect(done.device.pages[3].status[TONGSORREL_VIN] == bits, "VIN_OV from 49/4 on");
+    }
+    static const uint8_t header[] = {TONGSORREL_ADDRESS_WRITE, TONGSORREL_CODE_COEFFICIENTS, TONGSORREL_COEFFICIENTS_COUNT,
+                                     TONGSORREL_CODE_VIN_OV_FAULT_LIMIT, TONGSORREL_TO_ENCODE, TONGSORREL_ADDRESS_READ};
+    static const uint8_t data[] = {5, 0xFC, 0xFF, 0, 0, 0};
+    uint8_t reply[7];
+    expect(tongsorrel_read(done.device, header, sizeof header, reply, sizeof reply).answer == TONGSORREL_INVALID_DATA, "page 0 is linear");
+    expect(reply[0] == 0xFF && reply[6] == 0xFF, "nothing to send");
+    done.device.unpaged.page = 3;
+    expect(tongsorrel_read(done.device, header, sizeof header, reply, sizeof reply).answer == TONGSORREL_DONE, "COEFFICIENTS");
+    expect(memcmp(reply, data, sizeof data) == 0, "its data");
+    expect(reply[6] == tongsorrel_pec_from(tongsorrel_pec(header, sizeof header), data, sizeof data), "its PEC");
+    choices.pages[7].formats[TONGSORREL_IOUT_FORMAT] = (tongsorrel_format){true, 1, 0, 7};
+    done = tongsorrel_power_on_by(choices);
+    expect(done.answer == TONGSORREL_INVALID_FORMAT && !done.device.pages[3].formats[TONGSORREL_VIN_FORMAT].direct, "R 7: all linear");
+}
+
 int main(void) {
     expect(tongsorrel_pec((const uint8_t *)"123456789", 9) == 0xF4, "PEC of 123456789");
     expect(tongsorrel_linear11_scaled(0xEEC0) == -40 * 65536, "EEC0h is -40");
@@ -159,6 +194,8 @@ int main(void) {
     state(&device);
     clearings(device);
     totalizer(device);
-    if (failures == 0) printf("  C: the nine frames, the state they leave, clearings and the totalizer hold through tongsorrel.h\n");
+    direct();
+    if (failures == 0)
+        printf("  C: the nine frames, the state they leave, clearings, the totalizer and DIRECT words hold through tongsorrel.h\n");
     return failures != 0;
 }

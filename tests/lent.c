@@ -36,6 +36,7 @@ static void scribble(void) {
     for (size_t i = 0; i < ROOM; i++) {
         for (int q = 0; q < TONGSORREL_QUANTITIES; q++) *(uint8_t *)&room[i].measured[q] &= 1;
         *(uint8_t *)&room[i].tripped &= 1;
+        for (int f = 0; f < TONGSORREL_FORMATS; f++) *(uint8_t *)&room[i].formats[f].direct &= 1;
     }
     memcpy(before, room, sizeof room);
 }
@@ -117,19 +118,58 @@ static void number_lent(size_t number) {
     refused(unpaged, number);
 }
 
-static void wrong_number(uint64_t number) {
+/* Power-on by choices: as many as records, or 27 and all linear (16.4, 20.4). */
+static void chosen(size_t number) {
+    static tongsorrel_page_choice choices[TONGSORREL_MOST_PAGES + 1];
+    const tongsorrel_page fresh = tongsorrel_power_on().pages[0];
+    for (size_t i = 0; i <= number; i++)
+        choices[i] = (tongsorrel_page_choice){
+            .formats[TONGSORREL_VIN_FORMAT] = {true, (uint16_t)(i + 1), 0, 0xFA},
+            .limits[TONGSORREL_VIN_OV] = (uint16_t)(i + 100),
+        };
+    scribble();
+    expect(tongsorrel_lent_power_on_by(pages, number, choices, number).answer == TONGSORREL_DONE, "a choice for each", number);
+    for (size_t i = 0; i < number; i++) {
+        const uint16_t ov = (uint16_t)(i + 100);
+        expect(pages[i].limits[TONGSORREL_VIN_OV] == ov && pages[i].limits[TONGSORREL_VIN_OV_WARN] == ov, "a chosen limit", number);
+        expect(pages[i].limits[TONGSORREL_OT] == fresh.limits[TONGSORREL_OT], "the limit of a linear quantity", number);
+        expect(pages[i].formats[TONGSORREL_VIN_FORMAT].m == i + 1 && pages[i].formats[TONGSORREL_VIN_FORMAT].direct, "a format", number);
+    }
+    expect(memcmp(before, room, sizeof *room) == 0, "in front of them", number);
+    expect(memcmp(before + FENCE + number, pages + number, sizeof *room) == 0, "behind them", number);
+    for (size_t wrong = 0; wrong < 3; wrong++) {
+        scribble();
+        choices[number - 1].formats[TONGSORREL_TEMPERATURE_FORMAT].direct = wrong == 2; /* with m 0 */
+        const size_t told = wrong == 0 ? number - 1 : wrong == 1 ? number + 1 : number;
+        tongsorrel_outcome done = tongsorrel_lent_power_on_by(pages, number, choices, told);
+        expect(done.answer == TONGSORREL_INVALID_FORMAT && done.unpaged.page == 0 && !done.unpaged.alert, "27", number);
+        for (size_t i = 0; i < number; i++)
+            expect(memcmp(&pages[i].limits, &fresh.limits, sizeof fresh.limits) == 0 && !pages[i].formats[TONGSORREL_VIN_FORMAT].direct,
+                   "all linear under 27", number);
+    }
+    pages[number - 1].formats[TONGSORREL_IOUT_FORMAT] = (tongsorrel_format){true, 1, 0, 7};
+    refused(tongsorrel_power_on().unpaged, number);
+}
+
+static void wrong_number(size_t number) {
     tongsorrel_unpaged unpaged = powered(8);
     refused(unpaged, number);
     scribble();
     tongsorrel_outcome done = tongsorrel_lent_power_on(pages, number);
     expect(done.answer == TONGSORREL_INVALID_STATE && untouched(), "power-on leaves every record", number);
     expect(memcmp(&done.unpaged, &unpaged, sizeof unpaged) == 0, "the unpaged part of power-on", number);
+    const tongsorrel_page_choice none[1] = {0};
+    done = tongsorrel_lent_power_on_by(pages, number, none, 1);
+    expect(done.answer == TONGSORREL_INVALID_STATE && untouched(), "15 goes before 27", number);
 }
 
 static void one_by_one(void) {
     number_lent(1);
     number_lent(8);
     number_lent(96);
+    chosen(1);
+    chosen(8);
+    chosen(96);
     wrong_number(0);
     wrong_number(97);
     wrong_number((uint64_t)1 << 40); /* more than the memory holds: no record is read */
@@ -139,7 +179,7 @@ static void one_by_one(void) {
         pages[number - 1].operation = 0xFF;
         refused(unpaged, number);
     }
-    if (failures == 0) printf("  C: 1, 8, 96, 0 and 97 records, and records of any bytes, hold through tongsorrel.h\n");
+    if (failures == 0) printf("  C: 1, 8, 96, 0 and 97 records, choices for them, and records of any bytes, hold through tongsorrel.h\n");
 }
 
 /* ---- a frame file */

@@ -1,8 +1,9 @@
 //! The device over lent records: the library against the second program, with 0 to 97 records, and with eight against the eight-page device.
 
 use conformance::calls::{self, random_call, Call};
+use conformance::headers;
 use conformance::lending::{on_both, Fenced};
-use conformance::library::{self, lent, Device, Page, Unpaged};
+use conformance::library::{self, lent, Device, Page, PageChoice, Unpaged};
 use conformance::mirror;
 use conformance::random::Random;
 use conformance::states;
@@ -47,6 +48,85 @@ fn power_on() {
         assert_eq!(answer == 15, !(1..=96).contains(&number));
     }
     println!("  lent: power-on of 0 to 100 records agrees in every record");
+}
+
+/// Each number of records beside as many choices, one fewer, one more, none and 96.
+#[test]
+fn power_on_by_choices() {
+    let mut random = Random::new(25);
+    let mut seen = [0; 3];
+    for round in 0..505usize {
+        let number = round % 101;
+        for chosen in [number, number, number.saturating_sub(1), number + 1, 0, 96] {
+            let before: Vec<Page> = (0..number).map(|_| states::any_page(&mut random)).collect();
+            let choices = states::choices(&mut random, chosen);
+            let mut fenced = Fenced::new(&before, states::any_page(&mut random));
+            let done = lent::power_on_by(fenced.lent(), &choices);
+            let mut records: Vec<_> = before.iter().map(mirror::page_to_reference).collect();
+            let told: Vec<_> = choices.iter().map(mirror::choice_to_reference).collect();
+            let (unpaged, answer) = second::power_on_with(&mut records, &told);
+            assert_eq!(
+                (mirror::unpaged_to_reference(&done.unpaged), done.answer),
+                (unpaged, answer),
+                "{number} records, {chosen} choices"
+            );
+            let after = fenced.back();
+            assert!(after.iter().map(mirror::page_to_reference).eq(records));
+            match answer {
+                15 => assert_eq!(after, before, "{number} records"),
+                27 => assert_eq!(after, vec![library::power_on().pages[0]; number]),
+                _ => assert_eq!((answer, chosen), (0, number)),
+            }
+            seen[usize::from(answer == 15) + 2 * usize::from(answer == 27)] += 1;
+        }
+    }
+    assert!(seen.iter().all(|&count| count > 20), "{seen:?}");
+    println!(
+        "  lent: power-on of 0 to 100 records by 0 to 101 choices agrees: {} as chosen, {} with 15, {} with 27",
+        seen[0], seen[1], seen[2]
+    );
+}
+
+/// With eight choices the records are the eight pages of the other device.
+#[test]
+fn eight_choices_are_those_of_the_eight_page_device() {
+    let mut random = Random::new(26);
+    for _ in 0..CALLS / 20 {
+        let choices: [PageChoice; 8] = states::eight_choices(&mut random);
+        let mut pages: [Page; 8] = std::array::from_fn(|_| states::any_page(&mut random));
+        let parts = lent::power_on_by(&mut pages, &choices);
+        let whole = library::power_on_by(choices);
+        assert_eq!(
+            (whole.device.unpaged, whole.answer),
+            (parts.unpaged, parts.answer)
+        );
+        assert_eq!(whole.device.pages, pages);
+    }
+    println!(
+        "  lent: power-on by {} choices for eight records does what the eight-page device does",
+        CALLS / 20
+    );
+}
+
+/// COEFFICIENTS on 1, 8 and 96 records with DIRECT quantities.
+#[test]
+fn coefficients() {
+    let mut random = Random::new(27);
+    let mut seen = Seen::default();
+    for number in [1, 8, 96].repeat(3) {
+        let pages: Vec<Page> = (0..number).map(|_| states::page(&mut random)).collect();
+        let unpaged = states::unpaged(&mut random, number);
+        let fence = states::any_page(&mut random);
+        let mut all = headers::every_code();
+        all.extend(headers::wrong(&mut random));
+        for header in all {
+            let call = Call::Read(header, random.pick(&[0, 5, 6, 7, 8]));
+            let outcome = on_both(unpaged, &pages, &call, random.u8(), fence);
+            seen.note(&call, outcome.answer);
+        }
+    }
+    seen.require([&[], &[0, 2, 3, 9, 10, 11], &[], &[], &[], &[]]);
+    println!("  lent: COEFFICIENTS with right and wrong headers of every kind agrees on 1, 8 and 96 records");
 }
 
 #[test]
@@ -104,7 +184,11 @@ fn random_runs_from_power_on() {
     for run in 0..CALLS / RUN {
         let number = [1, 8, 96][run % 3];
         let mut pages = vec![states::any_page(&mut random); number];
-        let mut unpaged = lent::power_on(&mut pages).unpaged;
+        let choices = states::choices(&mut random, number);
+        let mut unpaged = match run % 2 {
+            0 => lent::power_on(&mut pages).unpaged,
+            _ => lent::power_on_by(&mut pages, &choices).unpaged,
+        };
         for _ in 0..RUN {
             let call = random_call(&mut random, &unpaged, &pages);
             let (before, fence) = (random.u8(), states::any_page(&mut random));

@@ -203,7 +203,42 @@ static tongsorrel_device no_power_on(void) {
     return device;
 }
 
+/* Power-on by choices, and the comparison of two values. */
+static tongsorrel_choices choices;
+static tongsorrel_page_choice many[TONGSORREL_MOST_PAGES];
+static uint8_t chosen[TONGSORREL_STREAM_CHOICES];
+static tongsorrel_format format, other;
+static volatile tongsorrel_compared compared;
+
+static tongsorrel_done no_power_on_by(tongsorrel_choices c) {
+    (void)c;
+    NOTE();
+    return done;
+}
+
+static tongsorrel_outcome no_lent_power_on_by(tongsorrel_page *p, size_t k, const tongsorrel_page_choice *c, size_t l) {
+    (void)p, (void)k, (void)c, (void)l;
+    NOTE();
+    return outcome;
+}
+
+static uint8_t no_stream_power_on_by(uint8_t *s, size_t l, const uint8_t *c, size_t k) {
+    (void)s, (void)l, (void)c, (void)k;
+    NOTE();
+    return 0;
+}
+
+static tongsorrel_compared no_compare(tongsorrel_format f, uint16_t a, tongsorrel_format g, uint16_t b) {
+    (void)f, (void)a, (void)g, (void)b;
+    NOTE();
+    return (tongsorrel_compared){0, 0};
+}
+
 /* The function called, which the compiler may not look through. */
+static tongsorrel_done (*volatile power_on_by_call)(tongsorrel_choices);
+static tongsorrel_outcome (*volatile lent_power_on_by_call)(tongsorrel_page *, size_t, const tongsorrel_page_choice *, size_t);
+static uint8_t (*volatile stream_power_on_by_call)(uint8_t *, size_t, const uint8_t *, size_t);
+static tongsorrel_compared (*volatile compare_call)(tongsorrel_format, uint16_t, tongsorrel_format, uint16_t);
 static tongsorrel_done (*volatile write_call)(tongsorrel_device, const uint8_t *, size_t);
 static tongsorrel_done (*volatile read_call)(tongsorrel_device, const uint8_t *, size_t, uint8_t *, size_t);
 static tongsorrel_done (*volatile measure_call)(tongsorrel_device, uint8_t, uint8_t, uint16_t);
@@ -237,6 +272,13 @@ static uint8_t (*volatile stream_supplies_call)(const uint8_t *, size_t, uint8_t
 static uint8_t (*volatile stream_alert_call)(const uint8_t *, size_t);
 static volatile uint8_t given;
 
+static void run_power_on_by(void) { done = power_on_by_call(choices); }
+static void run_lent_power_on_by(void) { outcome = lent_power_on_by_call(pages, TONGSORREL_MOST_PAGES, many, TONGSORREL_MOST_PAGES); }
+static void run_stream_power_on_by(void) { given = stream_power_on_by_call(state, sizeof state, chosen, sizeof chosen); }
+static void run_compare(void) {
+    const tongsorrel_compared c = compare_call(format, word, other, 0x7BFF);
+    compared.answer = c.answer, compared.order = c.order;
+}
 static void run_stream(void) { given = stream_call(state, sizeof state); }
 static void run_stream_byte(void) { given = stream_byte_call(state, sizeof state, number); }
 static void run_stream_measure(void) { given = stream_measure_call(state, sizeof state, number, second, word); }
@@ -314,7 +356,7 @@ static void report(const char *name) {
     deepest = 0;
 }
 
-enum { STATES = 4 };
+enum { STATES = 5 };
 
 /* A device whose pages are on, measured and beyond their limits. */
 static tongsorrel_device busy(void) {
@@ -326,11 +368,61 @@ static tongsorrel_device busy(void) {
     return d;
 }
 
+/* The same on pages whose quantities are DIRECT, and beyond their limits by a negative m. */
+static tongsorrel_device busy_direct(void) {
+    tongsorrel_device d = tongsorrel_power_on_by(choices).device;
+    for (uint8_t p = 0; p < TONGSORREL_PAGES; p++) {
+        d.pages[p].operation = TONGSORREL_OPERATION_ON;
+        for (uint8_t q = 0; q < TONGSORREL_QUANTITIES; q++) d = tongsorrel_measure(d, p, q, 0x8000).device;
+    }
+    return d;
+}
+
+/* Choices with every quantity DIRECT, or with one format at the end that is not valid. */
+static void choose(bool valid) {
+    const tongsorrel_format falling = {true, 0x8000, 0x7FFF, 0xFA}, none = {true, 0, 0, 7};
+    for (int p = 0; p < TONGSORREL_MOST_PAGES; p++)
+        for (int f = 0; f < TONGSORREL_FORMATS; f++) many[p].formats[f] = falling;
+    if (!valid) many[TONGSORREL_MOST_PAGES - 1].formats[2] = none;
+    for (int p = 0; p < TONGSORREL_PAGES; p++) choices.pages[p] = many[TONGSORREL_MOST_PAGES - 1 - p];
+    for (size_t i = 0; i < sizeof chosen; i += 30)
+        for (size_t k = 0; k < 18; k += 6) chosen[i + k] = 1, chosen[i + k + 2] = 0x80, chosen[i + k + 5] = valid ? 0xFA : 7;
+}
+
+/* Power-on by choices on the three devices, and comparisons of values in and beside valid formats. */
+static void by_choices(void) {
+    for (int valid = 1; valid >= 0; valid--) {
+        choose(valid);
+        DEPTH(power_on_by_call, no_power_on_by, tongsorrel_power_on_by, run_power_on_by);
+        DEPTH(lent_power_on_by_call, no_lent_power_on_by, tongsorrel_lent_power_on_by, run_lent_power_on_by);
+        DEPTH(stream_power_on_by_call, no_stream_power_on_by, tongsorrel_stream_power_on_by, run_stream_power_on_by);
+    }
+    choose(true);
+    report("tongsorrel_power_on_by, lent, stream");
+    for (int r = -7; r <= 7; r++)
+        for (int kind = 0; kind < 4; kind++) {
+            format = (tongsorrel_format){kind & 1, 0x8000, 0x7FFF, (uint8_t)r};
+            other = (tongsorrel_format){kind & 2, 1, 0x8000, (uint8_t)-r};
+            for (int value = 0; value < 65536; value += 4099) {
+                word = (uint16_t)value;
+                DEPTH(compare_call, no_compare, tongsorrel_compare, run_compare);
+            }
+        }
+    report("tongsorrel_compare");
+}
+
 /* A write of a code, with length bytes, the last of them the PEC. */
 static void transaction(uint8_t code) {
     bytes[0] = TONGSORREL_ADDRESS_WRITE, bytes[1] = code;
     bytes[2] = code == 0 ? 3 : 0x80, bytes[3] = 0x12;
     if (length > 2) bytes[length - 1] = tongsorrel_pec(bytes, length - 1);
+}
+
+/* The header of COEFFICIENTS for a code. */
+static void coefficients(uint8_t code) {
+    const uint8_t header[] = {TONGSORREL_ADDRESS_WRITE, TONGSORREL_CODE_COEFFICIENTS, TONGSORREL_COEFFICIENTS_COUNT,
+                              code, TONGSORREL_TO_DECODE, TONGSORREL_ADDRESS_READ};
+    memcpy(bytes, header, length = sizeof header);
 }
 
 /* The device with its pages as records, over and over. */
@@ -369,19 +461,23 @@ static void stream_byte(uint8_t byte) {
     keep(BYTE);
 }
 
-/* A write and a read of a code, event by event: length bytes of the one, n clocked of the other. */
+/* A write, a read and COEFFICIENTS of a code, event by event: length bytes of the one, n clocked of the others. */
 static void stream_transactions(uint8_t code) {
     transaction(code);
     stream_event(tongsorrel_stream_start, STEP);
     for (size_t i = 0; i < length; i++) stream_byte(bytes[i]);
     stream_event(tongsorrel_stream_stop, STOP);
-    stream_event(tongsorrel_stream_start, STEP);
-    stream_byte(TONGSORREL_ADDRESS_WRITE);
-    stream_byte(code);
-    stream_event(tongsorrel_stream_repeated_start, STEP);
-    stream_byte(TONGSORREL_ADDRESS_READ);
-    for (size_t i = 0; i < n; i++) stream_event(tongsorrel_stream_clock, STEP);
-    stream_event(tongsorrel_stream_stop, STOP);
+    for (int call = 0; call < 2; call++) {
+        const uint8_t written[] = {TONGSORREL_COEFFICIENTS_COUNT, code, TONGSORREL_TO_DECODE};
+        stream_event(tongsorrel_stream_start, STEP);
+        stream_byte(TONGSORREL_ADDRESS_WRITE);
+        stream_byte(call ? TONGSORREL_CODE_COEFFICIENTS : code);
+        for (size_t i = 0; call && i < sizeof written; i++) stream_byte(written[i]);
+        stream_event(tongsorrel_stream_repeated_start, STEP);
+        stream_byte(TONGSORREL_ADDRESS_READ);
+        for (size_t i = 0; i < n; i++) stream_event(tongsorrel_stream_clock, STEP);
+        stream_event(tongsorrel_stream_stop, STOP);
+    }
 }
 
 /* The calls beside the bus, and the questions. */
@@ -408,10 +504,11 @@ static void stream_write(uint8_t code, uint8_t data) {
     tongsorrel_stream_stop(state, sizeof state);
 }
 
-/* From power-on; or with PAGE FFh, every page on and beyond its limits; or with a phase that gets 15. */
+/* From power-on; or with PAGE FFh, every page on and beyond its limits; or with a phase that gets 15; or with every quantity DIRECT. */
 static void stream_state(int kind) {
     tongsorrel_stream_power_on(state, sizeof state);
-    if (kind == 0) return;
+    if (kind == 3) tongsorrel_stream_power_on_by(state, sizeof state, chosen, sizeof chosen);
+    if (kind == 0 || kind == 3) return;
     stream_write(TONGSORREL_CODE_PAGE, TONGSORREL_EVERY_PAGE);
     stream_write(TONGSORREL_CODE_OPERATION, TONGSORREL_OPERATION_ON);
     for (uint8_t p = 0; p < TONGSORREL_PAGES; p++)
@@ -420,7 +517,7 @@ static void stream_state(int kind) {
 }
 
 static void streaming(void) {
-    for (int kind = 0; kind < 3; kind++) {
+    for (int kind = 0; kind < 4; kind++) {
         for (int code = 0; code < 256; code++)
             for (length = 0; length < 7; length++) {
                 n = length + 3;
@@ -477,7 +574,8 @@ static void conversions(void) {
 }
 
 int main(void) {
-    tongsorrel_device states[STATES] = {tongsorrel_power_on(), busy(), busy(), busy()};
+    by_choices();
+    tongsorrel_device states[STATES] = {tongsorrel_power_on(), busy(), busy(), busy(), busy_direct()};
     states[2].unpaged.protect = 0x01;
     states[3].unpaged.page = TONGSORREL_EVERY_PAGE;
     DEPTH(power_on_call, no_power_on, tongsorrel_power_on, run_power_on);
@@ -506,6 +604,9 @@ int main(void) {
                 bytes[0] = TONGSORREL_ADDRESS_WRITE, bytes[1] = (uint8_t)code, bytes[2] = TONGSORREL_ADDRESS_READ;
                 DEPTH(read_call, no_read, tongsorrel_read, run_read);
                 lend(&states[s]);
+                DEPTH(lent_read_call, no_lent_read, tongsorrel_lent_read, run_lent_read);
+                coefficients((uint8_t)code);
+                DEPTH(read_call, no_read, tongsorrel_read, run_read);
                 DEPTH(lent_read_call, no_lent_read, tongsorrel_lent_read, run_lent_read);
             }
     report("tongsorrel_read, lent_read");

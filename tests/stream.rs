@@ -2,11 +2,12 @@
 //! against the library's own whole-transaction device.
 
 use conformance::buffer::{
-    decode, device_in, encode, encode_with, Lent, Part, AT_REST, PART, READING,
+    decode, device_in, encode, encode_choices, encode_with, Lent, Part, AT_REST, PART, READING,
 };
 use conformance::calls::{self, random_call, Call};
-use conformance::library::stream::{self, ACK, NACK, SIZE};
-use conformance::library::{self, Device};
+use conformance::headers;
+use conformance::library::stream::{self, ACK, CHOICES, NACK, SIZE};
+use conformance::library::{self, Device, PageChoice};
 use conformance::mirror;
 use conformance::random::Random;
 use conformance::states;
@@ -136,6 +137,108 @@ fn layout() {
     println!("  stream: power-on leaves the {SIZE} bytes of the data sheet's layout, whatever the buffer held");
 }
 
+/// Choices as bytes, in which a mark that is set is any byte but 0.
+fn choices_with_any_marks(random: &mut Random, choices: &[PageChoice]) -> Vec<u8> {
+    encode_choices(choices, &mut || random.u8().max(1))
+}
+
+#[test]
+fn power_on_by_choices() {
+    let mut random = Random::new(36);
+    let mut refused = 0;
+    for _ in 0..BUFFERS / 20 {
+        let choices = states::eight_choices(&mut random);
+        let bytes = choices_with_any_marks(&mut random, &choices);
+        assert_eq!(bytes.len(), CHOICES);
+        let held = random.bytes(SIZE);
+        let mut lent = Lent::new(&mut random, &held);
+        let answer = stream::power_on_by(lent.bytes_mut(), &bytes);
+        lent.check();
+        let whole = library::power_on_by(choices);
+        assert_eq!(answer, whole.answer, "{choices:04x?}");
+        assert_eq!(
+            lent.bytes(),
+            encode(AT_REST, whole.device),
+            "{choices:04x?}"
+        );
+        let chosen = choices.each_ref().map(mirror::choice_to_reference);
+        let (second, due) = Stream::power_on_with(&chosen);
+        assert_eq!((device_in(lent.bytes()), answer), (second.device, due));
+        refused += usize::from(answer == 27);
+    }
+    assert!(refused > BUFFERS / 200, "{refused}");
+    let linear = encode(AT_REST, library::power_on());
+    for length in [
+        0,
+        1,
+        30,
+        CHOICES - 1,
+        CHOICES + 1,
+        CHOICES + 30,
+        2 * CHOICES,
+    ] {
+        let mut bytes = vec![];
+        while bytes.len() < length {
+            let choice = states::choice(&mut random);
+            bytes.extend(choices_with_any_marks(&mut random, &[choice]));
+        }
+        bytes.truncate(length);
+        let held = random.bytes(SIZE);
+        let mut lent = Lent::new(&mut random, &held);
+        assert_eq!(
+            stream::power_on_by(lent.bytes_mut(), &bytes),
+            27,
+            "{length} bytes"
+        );
+        lent.check();
+        assert_eq!(lent.bytes(), linear, "{length} bytes");
+        for size in [0, SIZE - 1, SIZE + 1] {
+            let held = random.bytes(size);
+            let mut lent = Lent::new(&mut random, &held);
+            assert_eq!(stream::power_on_by(lent.bytes_mut(), &bytes), 15);
+            lent.check();
+            assert_eq!(lent.bytes(), held, "{size} bytes");
+        }
+    }
+    println!(
+        "  stream: power-on by {} choices leaves the bytes of the whole device's, {refused} of them with 27; another number of bytes gets 27 too",
+        BUFFERS / 20
+    );
+}
+
+/// COEFFICIENTS event by event: every code in four directions, and wrong headers.
+#[test]
+fn coefficients() {
+    let mut random = Random::new(37);
+    let (mut count, mut told) = (0, 0);
+    for state in 0..9 {
+        let mut device = states::valid(&mut random);
+        device.unpaged.page = if state < 8 { state } else { 0xFF };
+        let right = headers::every_code();
+        told += right
+            .iter()
+            .filter(|h| headers::sent(&device, h).is_some())
+            .count();
+        for header in right.into_iter().chain(headers::wrong(&mut random)) {
+            let n = random.pick(&[0, 5, 6, 7, 8, 9]);
+            whole(&mut random, device, &Call::Read(header, n));
+            count += 1;
+        }
+    }
+    assert!(told > 50, "{told}");
+    // The fifth byte behind the code is NACKed, and the second address byte gets ACK behind it.
+    let mut state = encode(AT_REST, library::power_on());
+    assert_eq!(stream::start(&mut state), 0);
+    let given =
+        [0xC0, 0x30, 0x02, 0x46, 0x01, 0x00, 0x00, 0x00].map(|byte| stream::byte(&mut state, byte));
+    assert_eq!(given, [ACK, ACK, ACK, ACK, ACK, ACK, NACK, NACK]);
+    assert_eq!(stream::repeated_start(&mut state), 0);
+    assert_eq!(stream::byte(&mut state, 0xC1), ACK);
+    assert_eq!(stream::clock(&mut state), 0xFF);
+    assert_eq!(stream::stop(&mut state), 2);
+    println!("  stream: COEFFICIENTS event by event, {count} headers right and wrong, does what tongsorrel_read does");
+}
+
 #[test]
 fn wrong_lengths() {
     let mut random = Random::new(31);
@@ -178,8 +281,14 @@ fn random_runs_from_power_on() {
     let mut count = 0;
     while count < EVENTS {
         let mut lent = Lent::new(&mut random, &[0xA5; SIZE]);
-        stream::power_on(lent.bytes_mut());
-        let mut second = Stream::power_on();
+        let choices = states::eight_choices(&mut random);
+        let mut second = if random.bool() {
+            stream::power_on(lent.bytes_mut());
+            Stream::power_on()
+        } else {
+            stream::power_on_by(lent.bytes_mut(), &encode_choices(&choices, &mut || 1));
+            Stream::power_on_with(&choices.each_ref().map(mirror::choice_to_reference)).0
+        };
         let end = count + RUN;
         while count < end {
             let before = decode(lent.bytes()).1;

@@ -59,7 +59,6 @@ static void say_number(uint32_t number, uint32_t base) {
 /* Buffers of bytes, between bytes that nobody may touch. */
 static uint8_t room[4][ROOM];
 static uint8_t stream[TONGSORREL_STREAM_SIZE + 8];
-static tongsorrel_page pages[RECORDS];
 
 static uint8_t *place(uint8_t *at) { return at + 1 + next() % 4; }
 static uint32_t length(void) { return next() % 12; }
@@ -113,15 +112,20 @@ for name, fields in structs.items():
         print(f'    case {i}: {change} break;')
     print('    }\n}')
 
+# The structs that are lent, an array of each.
+for name in sorted({first.type for f in functions for first, length in interface.slices(f) if length and first.type in structs}):
+    print(f'static {name} lent_{name}[RECORDS];')
+
 for call, function in enumerate(functions):
     print(f'static void call_{call}(void) {{ /* {function.name} */')
-    arguments, after, buffers = [], [], 0
+    arguments, after, buffers, number = [], [], 0, '1 + next() % 8'
     for first, length in interface.slices(function):
         if length and first.type in structs:
-            print('    uint64_t number = one_in(4) ? next() % (RECORDS + 1) : 1 + next() % 8;')
-            print('    if (one_in(16)) change_tongsorrel_page(&pages[next() % RECORDS]);')
-            arguments += ['pages', 'number']
-            after.append('for (uint32_t i = 0; i < RECORDS && i < number + 1; i++) add_tongsorrel_page(&pages[i]);')
+            print(f'    uint64_t {length.name} = one_in(4) ? next() % (RECORDS + 1) : {number};')
+            print(f'    if (one_in(16)) change_{first.type}(&lent_{first.type}[next() % RECORDS]);')
+            arguments += [f'lent_{first.type}', length.name]
+            after.append(f'for (uint32_t i = 0; i < RECORDS && i < {length.name} + 1; i++) add_{first.type}(&lent_{first.type}[i]);')
+            number = length.name  # of a second array mostly as many
         elif length and first.name == 'state':
             print('    if (one_in(64)) stream[next() % sizeof stream] = (uint8_t)next();')
             print('    uint64_t size = one_in(64) ? next() % sizeof stream : TONGSORREL_STREAM_SIZE;')

@@ -1,7 +1,50 @@
-//! The thirty-seven command codes (data sheet 3.1). The status registers 7A to 7E are
-//! written too: ones clear.
+//! The thirty-eight command codes (data sheet 3.1). The status registers 7A to 7E are
+//! written too: ones clear. COEFFICIENTS is neither written nor read: it is a process
+//! call, which writes and reads in one transaction.
 
-use Access::{Read, ReadWrite, Write};
+use Access::{Call, Read, ReadWrite, Write};
+
+/// The codes by name.
+pub mod code {
+    pub const PAGE: u8 = 0x00;
+    pub const OPERATION: u8 = 0x01;
+    pub const CLEAR_FAULTS: u8 = 0x03;
+    pub const WRITE_PROTECT: u8 = 0x10;
+    pub const CAPABILITY: u8 = 0x19;
+    pub const VOUT_MODE: u8 = 0x20;
+    pub const VOUT_COMMAND: u8 = 0x21;
+    pub const COEFFICIENTS: u8 = 0x30;
+    pub const VOUT_OV_FAULT_LIMIT: u8 = 0x40;
+    pub const VOUT_OV_FAULT_RESPONSE: u8 = 0x41;
+    pub const VOUT_OV_WARN_LIMIT: u8 = 0x42;
+    pub const IOUT_OC_FAULT_LIMIT: u8 = 0x46;
+    pub const IOUT_OC_FAULT_RESPONSE: u8 = 0x47;
+    pub const IOUT_OC_WARN_LIMIT: u8 = 0x4A;
+    pub const OT_FAULT_LIMIT: u8 = 0x4F;
+    pub const OT_FAULT_RESPONSE: u8 = 0x50;
+    pub const OT_WARN_LIMIT: u8 = 0x51;
+    pub const UT_FAULT_LIMIT: u8 = 0x53;
+    pub const UT_FAULT_RESPONSE: u8 = 0x54;
+    pub const VIN_OV_FAULT_LIMIT: u8 = 0x55;
+    pub const VIN_OV_FAULT_RESPONSE: u8 = 0x56;
+    pub const VIN_OV_WARN_LIMIT: u8 = 0x57;
+    pub const VIN_UV_WARN_LIMIT: u8 = 0x58;
+    pub const VIN_UV_FAULT_LIMIT: u8 = 0x59;
+    pub const VIN_UV_FAULT_RESPONSE: u8 = 0x5A;
+    pub const STATUS_BYTE: u8 = 0x78;
+    pub const STATUS_WORD: u8 = 0x79;
+    pub const STATUS_VOUT: u8 = 0x7A;
+    pub const STATUS_IOUT: u8 = 0x7B;
+    pub const STATUS_INPUT: u8 = 0x7C;
+    pub const STATUS_TEMPERATURE: u8 = 0x7D;
+    pub const STATUS_CML: u8 = 0x7E;
+    pub const READ_EIN: u8 = 0x86;
+    pub const READ_VIN: u8 = 0x88;
+    pub const READ_VOUT: u8 = 0x8B;
+    pub const READ_IOUT: u8 = 0x8C;
+    pub const READ_TEMPERATURE_1: u8 = 0x8D;
+    pub const PMBUS_REVISION: u8 = 0x98;
+}
 
 /// Which transactions a code takes.
 #[derive(Clone, Copy, Debug, PartialEq, Eq)]
@@ -9,6 +52,7 @@ pub enum Access {
     Read,
     Write,
     ReadWrite,
+    Call,
 }
 
 /// One row of the table.
@@ -16,22 +60,27 @@ pub enum Access {
 pub struct Command {
     pub code: u8,
     pub access: Access,
-    /// Number of data bytes, PEC not counted.
+    /// Number of data bytes, PEC not counted. For a process call those written behind
+    /// the code: the byte count, and as many as it says.
     pub data: usize,
 }
 
 impl Command {
     pub fn written(&self) -> bool {
-        self.access != Access::Read
+        matches!(self.access, Write | ReadWrite)
     }
 
     pub fn read(&self) -> bool {
-        self.access != Access::Write
+        matches!(self.access, Read | ReadWrite)
     }
 
     /// Whether the code acts on the selected page (CLEAR_FAULTS on CML as well).
     pub fn paged(&self) -> bool {
-        !matches!(self.code, 0x00 | 0x10 | 0x19 | 0x20 | 0x7E | 0x86 | 0x98)
+        use code::*;
+        !matches!(
+            self.code,
+            PAGE | WRITE_PROTECT | CAPABILITY | VOUT_MODE | STATUS_CML | READ_EIN | PMBUS_REVISION
+        )
     }
 }
 
@@ -39,44 +88,45 @@ const fn row(code: u8, access: Access, data: usize) -> Command {
     Command { code, access, data }
 }
 
-pub const TABLE: [Command; 37] = [
-    row(0x00, ReadWrite, 1), // PAGE
-    row(0x01, ReadWrite, 1), // OPERATION
-    row(0x03, Write, 0),     // CLEAR_FAULTS, acts on CML as well
-    row(0x10, ReadWrite, 1), // WRITE_PROTECT
-    row(0x19, Read, 1),      // CAPABILITY
-    row(0x20, Read, 1),      // VOUT_MODE
-    row(0x21, ReadWrite, 2), // VOUT_COMMAND
-    row(0x40, ReadWrite, 2), // VOUT_OV limit
-    row(0x41, ReadWrite, 1), // VOUT_OV response
-    row(0x42, ReadWrite, 2), // VOUT_OV warning limit
-    row(0x46, ReadWrite, 2), // IOUT_OC limit
-    row(0x47, ReadWrite, 1), // IOUT_OC response
-    row(0x4A, ReadWrite, 2), // IOUT_OC warning limit
-    row(0x4F, ReadWrite, 2), // OT limit
-    row(0x50, ReadWrite, 1), // OT response
-    row(0x51, ReadWrite, 2), // OT warning limit
-    row(0x53, ReadWrite, 2), // UT limit
-    row(0x54, ReadWrite, 1), // UT response
-    row(0x55, ReadWrite, 2), // VIN_OV limit
-    row(0x56, ReadWrite, 1), // VIN_OV response
-    row(0x57, ReadWrite, 2), // VIN_OV warning limit
-    row(0x58, ReadWrite, 2), // VIN_UV warning limit
-    row(0x59, ReadWrite, 2), // VIN_UV limit
-    row(0x5A, ReadWrite, 1), // VIN_UV response
-    row(0x78, Read, 1),      // STATUS_BYTE
-    row(0x79, Read, 2),      // STATUS_WORD
-    row(0x7A, ReadWrite, 1), // STATUS_VOUT
-    row(0x7B, ReadWrite, 1), // STATUS_IOUT
-    row(0x7C, ReadWrite, 1), // STATUS_INPUT
-    row(0x7D, ReadWrite, 1), // STATUS_TEMPERATURE
-    row(0x7E, ReadWrite, 1), // STATUS_CML
-    row(0x86, Read, 7),      // READ_EIN
-    row(0x88, Read, 2),      // READ_VIN
-    row(0x8B, Read, 2),      // READ_VOUT
-    row(0x8C, Read, 2),      // READ_IOUT
-    row(0x8D, Read, 2),      // READ_TEMPERATURE_1
-    row(0x98, Read, 1),      // PMBUS_REVISION
+pub const TABLE: [Command; 38] = [
+    row(code::PAGE, ReadWrite, 1),
+    row(code::OPERATION, ReadWrite, 1),
+    row(code::CLEAR_FAULTS, Write, 0),
+    row(code::WRITE_PROTECT, ReadWrite, 1),
+    row(code::CAPABILITY, Read, 1),
+    row(code::VOUT_MODE, Read, 1),
+    row(code::VOUT_COMMAND, ReadWrite, 2),
+    row(code::COEFFICIENTS, Call, 3),
+    row(code::VOUT_OV_FAULT_LIMIT, ReadWrite, 2),
+    row(code::VOUT_OV_FAULT_RESPONSE, ReadWrite, 1),
+    row(code::VOUT_OV_WARN_LIMIT, ReadWrite, 2),
+    row(code::IOUT_OC_FAULT_LIMIT, ReadWrite, 2),
+    row(code::IOUT_OC_FAULT_RESPONSE, ReadWrite, 1),
+    row(code::IOUT_OC_WARN_LIMIT, ReadWrite, 2),
+    row(code::OT_FAULT_LIMIT, ReadWrite, 2),
+    row(code::OT_FAULT_RESPONSE, ReadWrite, 1),
+    row(code::OT_WARN_LIMIT, ReadWrite, 2),
+    row(code::UT_FAULT_LIMIT, ReadWrite, 2),
+    row(code::UT_FAULT_RESPONSE, ReadWrite, 1),
+    row(code::VIN_OV_FAULT_LIMIT, ReadWrite, 2),
+    row(code::VIN_OV_FAULT_RESPONSE, ReadWrite, 1),
+    row(code::VIN_OV_WARN_LIMIT, ReadWrite, 2),
+    row(code::VIN_UV_WARN_LIMIT, ReadWrite, 2),
+    row(code::VIN_UV_FAULT_LIMIT, ReadWrite, 2),
+    row(code::VIN_UV_FAULT_RESPONSE, ReadWrite, 1),
+    row(code::STATUS_BYTE, Read, 1),
+    row(code::STATUS_WORD, Read, 2),
+    row(code::STATUS_VOUT, ReadWrite, 1),
+    row(code::STATUS_IOUT, ReadWrite, 1),
+    row(code::STATUS_INPUT, ReadWrite, 1),
+    row(code::STATUS_TEMPERATURE, ReadWrite, 1),
+    row(code::STATUS_CML, ReadWrite, 1),
+    row(code::READ_EIN, Read, 7),
+    row(code::READ_VIN, Read, 2),
+    row(code::READ_VOUT, Read, 2),
+    row(code::READ_IOUT, Read, 2),
+    row(code::READ_TEMPERATURE_1, Read, 2),
+    row(code::PMBUS_REVISION, Read, 1),
 ];
 
 /// The row of `code`, or none when the code is absent.

@@ -7,10 +7,11 @@
 use crate::lent::{self, Unpaged};
 
 pub use crate::account::Account;
+pub use crate::format::Format;
 pub use crate::lent::{ALL_PAGES, READ_ADDRESS, WRITE_ADDRESS};
 pub use crate::machine::Machine;
 pub use crate::page::{
-    Page, Reading, IOUT, IOUT_OC, OT, TEMPERATURE, UT, VIN, VIN_OV, VIN_UV, VOUT, VOUT_OV,
+    Choice, Page, Reading, IOUT, IOUT_OC, OT, TEMPERATURE, UT, VIN, VIN_OV, VIN_UV, VOUT, VOUT_OV,
 };
 
 /// The whole device.
@@ -25,8 +26,16 @@ pub struct Device {
 }
 
 impl Device {
+    /// Power-on of the all-linear device.
     pub fn power_on() -> Device {
-        Device::from_parts(Unpaged::power_on(), [Page::power_on(); 8])
+        Device::power_on_with(&[Choice::default(); 8]).0
+    }
+
+    /// Power-on with a choice for each page: answer 0, or 27 and an all-linear device.
+    pub fn power_on_with(choices: &[Choice; 8]) -> (Device, u8) {
+        let mut pages = [Page::power_on(); 8];
+        let (unpaged, answer) = lent::power_on_with(&mut pages, choices);
+        (Device::from_parts(unpaged, pages), answer)
     }
 
     fn unpaged(&self) -> Unpaged {

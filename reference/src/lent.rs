@@ -6,8 +6,8 @@
 //! the device of eight pages lends its own records.
 
 use crate::account::Account;
-use crate::command::{self, Command};
-use crate::page::{self, one, Page, Reading};
+use crate::command::{self, code, Command};
+use crate::page::{self, Choice, Page, Reading};
 use crate::pec::{pec, pec_from};
 use std::cmp::Ordering;
 use std::ops::Range;
@@ -21,10 +21,13 @@ pub const ALL_PAGES: u8 = 0xFF;
 /// The most records that can be lent.
 pub const MOST: usize = 96;
 
-// Constants of the unpaged read codes.
+// What the constant codes give.
 const CAPABILITY: u8 = 0xB0;
 const VOUT_MODE: u8 = 0x13;
 const REVISION: u8 = 0x22;
+
+/// The byte count in the header of COEFFICIENTS: a code and a direction.
+const COEFFICIENTS_COUNT: u8 = 0x02;
 
 /// All of the device but its pages. Any field values may be handed in; the fields
 /// are wide enough for those that get answer 15.
@@ -49,13 +52,27 @@ impl Unpaged {
     }
 }
 
-/// Power-on: every record lent is set, whatever it held. With none or too many
-/// none is touched, the answer is 15 and the unpaged part is the usual one.
+/// Power-on of the all-linear device.
 pub fn power_on(pages: &mut [Page]) -> (Unpaged, u8) {
+    let choices = vec![Choice::default(); pages.len()];
+    power_on_with(pages, &choices)
+}
+
+/// Power-on: every record lent is set as its choice says, whatever it held. With none
+/// or too many none is touched, the answer is 15 and the unpaged part is the usual one.
+/// Where there is not one choice a record, or a choice is not valid, the answer is 27
+/// and the device all linear.
+pub fn power_on_with(pages: &mut [Page], choices: &[Choice]) -> (Unpaged, u8) {
     if !count_valid(pages) {
         return (Unpaged::power_on(), 15);
     }
-    pages.fill(Page::power_on());
+    if choices.len() != pages.len() || !choices.iter().all(Choice::valid) {
+        pages.fill(Page::power_on());
+        return (Unpaged::power_on(), 27);
+    }
+    for (page, choice) in pages.iter_mut().zip(choices) {
+        *page = Page::power_on_with(choice);
+    }
     (Unpaged::power_on(), 0)
 }
 
@@ -87,10 +104,7 @@ pub fn write(unpaged: &mut Unpaged, pages: &mut [Page], bytes: &[u8]) -> u8 {
 /// bytes the host clocks.
 pub fn read(unpaged: &mut Unpaged, pages: &[Page], header: &[u8], reply: &mut [u8]) -> u8 {
     let answer = match judge_read(unpaged, pages, header) {
-        Ok(command) => {
-            let field = read_data(unpaged, pages, command.code);
-            fill_reply(&field[..command.data], header, reply)
-        }
+        Ok(data) => fill_reply(&data, header, reply),
         Err(answer) => {
             reply.fill(0xFF);
             answer
@@ -176,19 +190,22 @@ fn protect_valid(data: u8) -> bool {
 
 /// The two kinds of clearing: CLEAR_FAULTS and ones written to a status register.
 fn clears(code: u8) -> bool {
-    matches!(code, 0x03 | 0x7A..=0x7E)
+    matches!(
+        code,
+        code::CLEAR_FAULTS | code::STATUS_VOUT..=code::STATUS_CML
+    )
 }
 
 /// Whether WRITE_PROTECT level `protect` permits a write of `code`.
 /// Clearings and WRITE_PROTECT itself are always permitted.
 fn permitted(protect: u8, code: u8) -> bool {
-    if clears(code) || code == 0x10 {
+    if clears(code) || code == code::WRITE_PROTECT {
         return true;
     }
     match protect {
         0x00 => true,
-        0x20 => matches!(code, 0x01 | 0x00 | 0x21),
-        0x40 => matches!(code, 0x01 | 0x00),
+        0x20 => matches!(code, code::OPERATION | code::PAGE | code::VOUT_COMMAND),
+        0x40 => matches!(code, code::OPERATION | code::PAGE),
         _ => false,
     }
 }
@@ -241,8 +258,8 @@ fn judge_write(unpaged: &Unpaged, pages: &[Page], bytes: &[u8]) -> Result<&'stat
         return Err(8);
     }
     let data_valid = match command.code {
-        0x00 => page_valid(data[0], pages),
-        0x10 => protect_valid(data[0]),
+        code::PAGE => page_valid(data[0], pages),
+        code::WRITE_PROTECT => protect_valid(data[0]),
         code => page::data_valid(code, data),
     };
     if data_valid {
@@ -252,28 +269,43 @@ fn judge_write(unpaged: &Unpaged, pages: &[Page], bytes: &[u8]) -> Result<&'stat
     }
 }
 
-/// The command of a read whose reply carries data, or answers 15, 1, 2, 3, 9.
-/// With all pages selected a paged code has no one value to give, whatever n.
-fn judge_read(unpaged: &Unpaged, pages: &[Page], header: &[u8]) -> Result<&'static Command, u8> {
+/// The data of a read, or answers 15, 1, 2, 3, 9.
+fn judge_read(unpaged: &Unpaged, pages: &[Page], header: &[u8]) -> Result<Vec<u8>, u8> {
     if !valid(unpaged, pages) {
         return Err(15);
     }
-    if header.is_empty() {
-        return Err(2);
+    match *header {
+        [] => Err(2),
+        [first, ..] if first != WRITE_ADDRESS => Err(1),
+        [_, code, READ_ADDRESS] => plain_read(unpaged, pages, code),
+        [_, code::COEFFICIENTS, COEFFICIENTS_COUNT, of, direction, READ_ADDRESS] => {
+            coefficients(unpaged, pages, of, direction)
+        }
+        _ => Err(2),
     }
-    if header[0] != WRITE_ADDRESS {
-        return Err(1);
-    }
-    if header.len() != 3 || header[2] != READ_ADDRESS {
-        return Err(2);
-    }
-    match command::lookup(header[1]) {
+}
+
+/// The data of a read of `code`, or answers 3 and 9. With all pages selected a paged
+/// code has no one value to give, whatever n. A process call is not read.
+fn plain_read(unpaged: &Unpaged, pages: &[Page], code: u8) -> Result<Vec<u8>, u8> {
+    match command::lookup(code) {
         Some(command) if command.read() => match unpaged.page {
             ALL_PAGES if command.paged() => Err(9),
-            _ => Ok(command),
+            _ => Ok(read_data(unpaged, pages, code)),
         },
         _ => Err(3),
     }
+}
+
+/// The data of COEFFICIENTS, which is paged: answer 9 with all pages selected, and where
+/// the selected page has none for that code and direction.
+fn coefficients(unpaged: &Unpaged, pages: &[Page], of: u8, direction: u8) -> Result<Vec<u8>, u8> {
+    let page = match unpaged.page {
+        ALL_PAGES => None,
+        page => pages.get(usize::from(page)),
+    };
+    let format = page.and_then(|page| page.coefficients(of, direction));
+    format.map(|format| format.reply()).ok_or(9)
 }
 
 /// The pages that a paged write acts on.
@@ -289,9 +321,9 @@ fn selected(unpaged: &Unpaged, pages: &[Page]) -> Range<usize> {
 /// cleared, the alert is up exactly when any bit stands anywhere.
 fn carry_out(unpaged: &mut Unpaged, pages: &mut [Page], command: &Command, data: &[u8]) {
     match command.code {
-        0x00 => unpaged.page = data[0],
-        0x10 => unpaged.protect = data[0],
-        0x7E => unpaged.cml &= !data[0],
+        code::PAGE => unpaged.page = data[0],
+        code::WRITE_PROTECT => unpaged.protect = data[0],
+        code::STATUS_CML => unpaged.cml &= !data[0],
         code => {
             let selected = selected(unpaged, pages);
             for page in &mut pages[selected] {
@@ -300,7 +332,7 @@ fn carry_out(unpaged: &mut Unpaged, pages: &mut [Page], command: &Command, data:
             }
         }
     }
-    if command.code == 0x03 {
+    if command.code == code::CLEAR_FAULTS {
         unpaged.cml = 0;
     }
     if clears(command.code) {
@@ -329,15 +361,15 @@ fn raise_cml(unpaged: &mut Unpaged, bit: u8) {
 }
 
 /// The data of a readable code; a paged one only with one page selected.
-fn read_data(unpaged: &Unpaged, pages: &[Page], code: u8) -> [u8; 7] {
+fn read_data(unpaged: &Unpaged, pages: &[Page], code: u8) -> Vec<u8> {
     match code {
-        0x00 => one(unpaged.page),
-        0x10 => one(unpaged.protect),
-        0x19 => one(CAPABILITY),
-        0x20 => one(VOUT_MODE),
-        0x7E => one(unpaged.cml),
-        0x86 => unpaged.account.bytes(),
-        0x98 => one(REVISION),
+        code::PAGE => vec![unpaged.page],
+        code::WRITE_PROTECT => vec![unpaged.protect],
+        code::CAPABILITY => vec![CAPABILITY],
+        code::VOUT_MODE => vec![VOUT_MODE],
+        code::STATUS_CML => vec![unpaged.cml],
+        code::READ_EIN => unpaged.account.bytes().to_vec(),
+        code::PMBUS_REVISION => vec![REVISION],
         _ => pages[usize::from(unpaged.page)].data(code, unpaged.cml),
     }
 }

@@ -7,6 +7,7 @@
 pub mod account;
 pub mod command;
 pub mod device;
+pub mod format;
 pub mod frame;
 pub mod host;
 pub mod lent;

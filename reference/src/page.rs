@@ -1,6 +1,8 @@
 //! One page, one supply: its fields, its causes, what an accepted write does to it
 //! and whether it supplies (data sheet, sections 6 and 7).
 
+use crate::command::code;
+use crate::format::Format;
 use crate::linear11;
 use crate::machine::{self, Machine};
 use std::cmp::Ordering;
@@ -38,23 +40,29 @@ const fn watch(limit: u8, quantity: usize, side: Ordering, bit: u8) -> Watch {
     }
 }
 
+const ABOVE: Ordering = Ordering::Greater;
+const BELOW: Ordering = Ordering::Less;
+
 const CAUSES: [Watch; 6] = [
-    watch(0x40, VOUT, Ordering::Greater, 0x80),
-    watch(0x46, IOUT, Ordering::Greater, 0x80),
-    watch(0x4F, TEMPERATURE, Ordering::Greater, 0x80),
-    watch(0x53, TEMPERATURE, Ordering::Less, 0x10),
-    watch(0x55, VIN, Ordering::Greater, 0x80),
-    watch(0x59, VIN, Ordering::Less, 0x10),
+    watch(code::VOUT_OV_FAULT_LIMIT, VOUT, ABOVE, 0x80),
+    watch(code::IOUT_OC_FAULT_LIMIT, IOUT, ABOVE, 0x80),
+    watch(code::OT_FAULT_LIMIT, TEMPERATURE, ABOVE, 0x80),
+    watch(code::UT_FAULT_LIMIT, TEMPERATURE, BELOW, 0x10),
+    watch(code::VIN_OV_FAULT_LIMIT, VIN, ABOVE, 0x80),
+    watch(code::VIN_UV_FAULT_LIMIT, VIN, BELOW, 0x10),
 ];
 
 /// Warnings: they set their bits like causes but have no response.
 const WARNINGS: [Watch; 5] = [
-    watch(0x42, VOUT, Ordering::Greater, 0x40),
-    watch(0x4A, IOUT, Ordering::Greater, 0x20),
-    watch(0x51, TEMPERATURE, Ordering::Greater, 0x40),
-    watch(0x57, VIN, Ordering::Greater, 0x40),
-    watch(0x58, VIN, Ordering::Less, 0x20),
+    watch(code::VOUT_OV_WARN_LIMIT, VOUT, ABOVE, 0x40),
+    watch(code::IOUT_OC_WARN_LIMIT, IOUT, ABOVE, 0x20),
+    watch(code::OT_WARN_LIMIT, TEMPERATURE, ABOVE, 0x40),
+    watch(code::VIN_OV_WARN_LIMIT, VIN, ABOVE, 0x40),
+    watch(code::VIN_UV_WARN_LIMIT, VIN, BELOW, 0x20),
 ];
+
+/// The causes whose limits the warnings start with, in the order of the warnings.
+const WARNED: [usize; 5] = [VOUT_OV, IOUT_OC, OT, VIN_OV, VIN_UV];
 
 /// The causes that have a machine, in the order of the machines. IOUT_OC has none.
 const MACHINED: [usize; 5] = [VOUT_OV, OT, UT, VIN_OV, VIN_UV];
@@ -79,12 +87,45 @@ fn warn_limit_of(code: u8) -> Option<usize> {
 /// The cause whose response is at `code`.
 fn response_of(code: u8) -> Option<usize> {
     match code {
-        0x41 => Some(VOUT_OV),
-        0x47 => Some(IOUT_OC),
-        0x50 => Some(OT),
-        0x54 => Some(UT),
-        0x56 => Some(VIN_OV),
-        0x5A => Some(VIN_UV),
+        code::VOUT_OV_FAULT_RESPONSE => Some(VOUT_OV),
+        code::IOUT_OC_FAULT_RESPONSE => Some(IOUT_OC),
+        code::OT_FAULT_RESPONSE => Some(OT),
+        code::UT_FAULT_RESPONSE => Some(UT),
+        code::VIN_OV_FAULT_RESPONSE => Some(VIN_OV),
+        code::VIN_UV_FAULT_RESPONSE => Some(VIN_UV),
+        _ => None,
+    }
+}
+
+/// The quantity whose latest word is read at `code`.
+fn read_of(code: u8) -> Option<usize> {
+    match code {
+        code::READ_VIN => Some(VIN),
+        code::READ_VOUT => Some(VOUT),
+        code::READ_IOUT => Some(IOUT),
+        code::READ_TEMPERATURE_1 => Some(TEMPERATURE),
+        _ => None,
+    }
+}
+
+/// The quantity whose limit, of a cause or a warning, is at `code`.
+fn limited_by(code: u8) -> Option<usize> {
+    let mut watches = CAUSES.iter().chain(&WARNINGS);
+    let found = watches.find(|watch| watch.limit == code);
+    found.map(|watch| watch.quantity)
+}
+
+// The second byte of COEFFICIENTS: what the host wants to do with them.
+const ENCODE: u8 = 0x00;
+const DECODE: u8 = 0x01;
+
+/// The status register at `code`, by quantity.
+fn register_of(code: u8) -> Option<usize> {
+    match code {
+        code::STATUS_VOUT => Some(VOUT),
+        code::STATUS_IOUT => Some(IOUT),
+        code::STATUS_INPUT => Some(VIN),
+        code::STATUS_TEMPERATURE => Some(TEMPERATURE),
         _ => None,
     }
 }
@@ -100,6 +141,25 @@ pub struct Reading {
     pub measured: bool,
     pub word: u16,
 }
+
+/// What power-on is told of a page: the formats of its quantities, and limits for those
+/// that are DIRECT.
+#[derive(Clone, Copy, Debug, Default, PartialEq, Eq)]
+pub struct Choice {
+    /// IOUT, VIN, temperature.
+    pub formats: [Format; 3],
+    /// By cause. That of VOUT_OV, and those of linear quantities, are ignored.
+    pub limits: [u16; 6],
+}
+
+impl Choice {
+    pub(crate) fn valid(&self) -> bool {
+        self.formats.iter().all(Format::valid)
+    }
+}
+
+/// The limits of linear quantities at power-on, by cause.
+const LINEAR_LIMITS: [u16; 6] = [0x2A3D, 0xD280, 0xEB70, 0xEEC0, 0xD3FF, 0xC3F5];
 
 /// One page: one supply.
 #[derive(Clone, Copy, Debug, PartialEq, Eq)]
@@ -119,29 +179,54 @@ pub struct Page {
     pub machines: [Machine; 5],
     /// By quantity: VOUT, IOUT, VIN, temperature.
     pub readings: [Reading; 4],
+    /// IOUT, VIN, temperature; VOUT has none. Power-on chooses them, nothing else does.
+    pub formats: [Format; 3],
 }
 
 impl Page {
+    /// A page at power-on, with all quantities linear.
     pub fn power_on() -> Page {
-        Page {
+        Page::power_on_with(&Choice::default())
+    }
+
+    /// A page at power-on as chosen.
+    pub fn power_on_with(choice: &Choice) -> Page {
+        let mut page = Page {
             operation: 0x00,
             vout_command: 0x2666,
-            limits: [0x2A3D, 0xD280, 0xEB70, 0xEEC0, 0xD3FF, 0xC3F5],
+            limits: LINEAR_LIMITS,
             responses: [0x80, 0xC0, 0x80, 0x80, 0x80, 0x80],
-            warn_limits: [0x2A3D, 0xD280, 0xEB70, 0xD3FF, 0xC3F5],
+            warn_limits: [0; 5],
             status: [0; 4],
             tripped: false,
             machines: [Machine::AT_REST; 5],
             readings: [Reading::default(); 4],
+            formats: choice.formats,
+        };
+        for (cause, watch) in CAUSES.iter().enumerate() {
+            if page.format(watch.quantity).direct {
+                page.limits[cause] = choice.limits[cause];
+            }
         }
+        page.warn_limits = WARNED.map(|cause| page.limits[cause]);
+        page
     }
 
-    /// Whether OPERATION and the six responses are valid data and each machine has a
-    /// value that occurs.
+    /// Whether OPERATION, the six responses and the formats are valid and each machine
+    /// has a value that occurs.
     pub fn valid(&self) -> bool {
         operation_valid(self.operation)
             && (0..6).all(|cause| response_valid(cause, self.responses[cause]))
             && self.machines.iter().all(Machine::valid)
+            && self.formats.iter().all(Format::valid)
+    }
+
+    /// The format of a quantity; VOUT is linear, in a way of its own.
+    fn format(&self, quantity: usize) -> Format {
+        match quantity {
+            VOUT => Format::LINEAR,
+            _ => self.formats[quantity - IOUT],
+        }
     }
 
     /// Whether a cause is present (data sheet 6.2).
@@ -154,12 +239,14 @@ impl Page {
         self.past(&WARNINGS[warning], self.warn_limits[warning])
     }
 
-    /// Whether the latest measurement lies strictly past a limit.
+    /// Whether the latest measurement lies strictly past a limit. Word and limit have
+    /// the quantity's format, valid or not.
     fn past(&self, watch: &Watch, limit: u16) -> bool {
         let reading = self.readings[watch.quantity];
+        let format = self.format(watch.quantity);
         let place = match watch.quantity {
             VOUT => linear11::order_vout(reading.word, limit),
-            _ => linear11::order(reading.word, limit),
+            _ => format.order_of(reading.word, limit),
         };
         reading.measured && place == watch.side
     }
@@ -234,25 +321,40 @@ impl Page {
         }
     }
 
-    /// The data of a readable paged code, in a field of seven bytes.
-    pub(crate) fn data(&self, code: u8, cml: u8) -> [u8; 7] {
+    /// The data of a readable paged code.
+    pub(crate) fn data(&self, code: u8, cml: u8) -> Vec<u8> {
         match code {
-            0x01 => one(self.operation),
-            0x21 => two(self.vout_command),
-            0x78 => one(self.status_byte(cml)),
-            0x79 => two(self.status_word(cml)),
-            0x7A..=0x7D => one(self.status[usize::from(code - 0x7A)]),
-            0x88 => two(self.latest(VIN)),
-            0x8B => two(self.latest(VOUT)),
-            0x8C => two(self.latest(IOUT)),
-            0x8D => two(self.latest(TEMPERATURE)),
-            _ => match (limit_of(code), warn_limit_of(code), response_of(code)) {
-                (Some(cause), _, _) => two(self.limits[cause]),
-                (_, Some(warning), _) => two(self.warn_limits[warning]),
-                (_, _, Some(cause)) => one(self.responses[cause]),
-                (None, None, None) => unreachable!("code {code:02x} is not read"),
-            },
+            code::OPERATION => vec![self.operation],
+            code::VOUT_COMMAND => bytes(self.vout_command),
+            code::STATUS_BYTE => vec![self.status_byte(cml)],
+            code::STATUS_WORD => bytes(self.status_word(cml)),
+            _ => {
+                if let Some(register) = register_of(code) {
+                    vec![self.status[register]]
+                } else if let Some(quantity) = read_of(code) {
+                    bytes(self.latest(quantity))
+                } else if let Some(cause) = limit_of(code) {
+                    bytes(self.limits[cause])
+                } else if let Some(warning) = warn_limit_of(code) {
+                    bytes(self.warn_limits[warning])
+                } else if let Some(cause) = response_of(code) {
+                    vec![self.responses[cause]]
+                } else {
+                    unreachable!("code {code:02x} is not read")
+                }
+            }
         }
+    }
+
+    /// The coefficients of a code for a direction, or none: only limits and READ codes
+    /// of DIRECT quantities have them, and a READ code only to decode.
+    pub(crate) fn coefficients(&self, code: u8, direction: u8) -> Option<Format> {
+        let quantity = match direction {
+            DECODE => limited_by(code).or(read_of(code)),
+            ENCODE => limited_by(code),
+            _ => None,
+        };
+        Some(self.format(quantity?)).filter(|format| format.direct)
     }
 
     fn status_byte(&self, cml: u8) -> u8 {
@@ -280,11 +382,11 @@ impl Page {
     /// Carries out an accepted write of a paged command. What it clears of a present
     /// cause comes back when the page is brought up to date.
     pub(crate) fn store(&mut self, code: u8, data: &[u8]) {
-        if code == 0x03 {
+        if code == code::CLEAR_FAULTS {
             self.status = [0; 4];
-        } else if (0x7A..=0x7D).contains(&code) {
+        } else if let Some(register) = register_of(code) {
             // Each 1 clears its bit, each 0 spares it.
-            self.status[usize::from(code - 0x7A)] &= !data[0];
+            self.status[register] &= !data[0];
         } else if let Some(cause) = limit_of(code) {
             self.limits[cause] = word(data);
         } else if let Some(warning) = warn_limit_of(code) {
@@ -295,9 +397,9 @@ impl Page {
             if let Some(index) = MACHINED.iter().position(|&own| own == cause) {
                 self.machines[index] = Machine::AT_REST;
             }
-        } else if code == 0x21 {
+        } else if code == code::VOUT_COMMAND {
             self.vout_command = word(data);
-        } else if code == 0x01 {
+        } else if code == code::OPERATION {
             self.operation = data[0];
             // 00h and 40h put every machine to rest and untrip; a cause still present
             // starts its machine or trips again afterwards.
@@ -312,7 +414,7 @@ impl Page {
 /// Whether the data of a paged code are valid. Words and ones that clear: any.
 pub(crate) fn data_valid(code: u8, data: &[u8]) -> bool {
     match (code, response_of(code)) {
-        (0x01, _) => operation_valid(data[0]),
+        (code::OPERATION, _) => operation_valid(data[0]),
         (_, Some(cause)) => response_valid(cause, data[0]),
         _ => true,
     }
@@ -323,12 +425,7 @@ fn word(data: &[u8]) -> u16 {
     u16::from_le_bytes([data[0], data[1]])
 }
 
-// Reply data in a field of seven bytes; the table's length says how many count.
-pub(crate) fn one(byte: u8) -> [u8; 7] {
-    [byte, 0, 0, 0, 0, 0, 0]
-}
-
-fn two(word: u16) -> [u8; 7] {
-    let [low, high] = word.to_le_bytes();
-    [low, high, 0, 0, 0, 0, 0]
+/// The two bytes of a word, low byte first.
+fn bytes(word: u16) -> Vec<u8> {
+    word.to_le_bytes().to_vec()
 }

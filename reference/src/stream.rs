@@ -9,7 +9,7 @@
 //! the device between that and STOP does not show in it.
 
 use crate::command;
-use crate::device::{Device, READ_ADDRESS, WRITE_ADDRESS};
+use crate::device::{Choice, Device, READ_ADDRESS, WRITE_ADDRESS};
 
 /// The longest data and their PEC; whatever is clocked after the PEC is FFh.
 const REPLY: usize = 8;
@@ -72,6 +72,12 @@ impl Stream {
 
     pub fn power_on() -> Stream {
         Stream::new(Device::power_on())
+    }
+
+    /// Power-on with a choice for each page: answer 0, or 27 and an all-linear device.
+    pub fn power_on_with(choices: &[Choice; 8]) -> (Stream, u8) {
+        let (device, answer) = Device::power_on_with(choices);
+        (Stream::new(device), answer)
     }
 
     /// START: a transaction begins, and one that had no STOP is dropped. Answer 0.
@@ -177,8 +183,8 @@ impl Stream {
     }
 
     /// Whether the next byte after START is the address byte, a code of the table, or
-    /// data or PEC of that code in the table's count, whichever way the code goes; none
-    /// for one beyond that.
+    /// data or PEC of that code in the table's count, whichever way the code goes and
+    /// for a process call too; none for one beyond that.
     fn expected(&self, byte: u8) -> Option<bool> {
         match self.transaction.bytes[..] {
             [] => Some(byte == WRITE_ADDRESS),

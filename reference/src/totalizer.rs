@@ -1,10 +1,9 @@
 //! The host's totalizer (data sheet, section 10).
 
 use crate::account::Account;
+use crate::command::code::READ_EIN;
 use crate::lent::{READ_ADDRESS, WRITE_ADDRESS};
 use crate::pec::{pec, pec_from};
-
-const READ_EIN: u8 = 0x86;
 
 /// Readings are taken modulo 8,388,608 (23 bits), counts modulo 16,777,216.
 const READING_MASK: u32 = 0x7F_FFFF;

@@ -3,7 +3,7 @@
 mod common;
 
 use common::*;
-use reference::device::{Account, Device, Machine, Page, Reading, ALL_PAGES};
+use reference::device::{Account, Choice, Device, Format, Machine, Page, Reading, ALL_PAGES};
 use reference::lent::{self, Unpaged, MOST};
 
 /// Numbers with no pattern to them.
@@ -46,7 +46,22 @@ impl Random {
             measured: self.below(2) == 0,
             word: self.word(),
         });
+        page.formats = self.choice().formats;
         page
+    }
+
+    /// A valid choice, linear and DIRECT.
+    fn choice(&mut self) -> Choice {
+        let format = |random: &mut Random| Format {
+            direct: random.below(2) == 0,
+            m: random.pick(&[1, -1, 3, -700, i16::MIN]),
+            b: random.word() as i16,
+            r: random.below(13) as i8 - 6,
+        };
+        Choice {
+            formats: [(); 3].map(|_| format(self)),
+            limits: [(); 6].map(|_| self.word()),
+        }
     }
 
     /// Any of the machines that occur.
@@ -95,6 +110,11 @@ impl Random {
                     bytes[2] = self.pick(&[0, pages as u8 - 1, pages as u8, 0xFF]);
                 }
                 Call::Write(bytes)
+            }
+            4 if self.below(4) == 0 => {
+                let of = self.pick(&READABLE).0;
+                let direction = self.below(3) as u8;
+                Call::Read(vec![0xC0, 0x30, 0x02, of, direction, 0xC1], self.below(10))
             }
             4 => Call::Read(vec![0xC0, self.pick(&READABLE).0, 0xC1], self.below(10)),
             5 | 6 => Call::Measure(
@@ -207,6 +227,37 @@ fn power_on_with_none_or_too_many() {
         let (unpaged, answer) = lent::power_on(&mut pages);
         assert_eq!((unpaged, answer), (Unpaged::power_on(), 15));
         assert_eq!(pages, before);
+    }
+}
+
+/// One choice a record; 15 comes before 27, and only 15 leaves the records alone.
+#[test]
+fn power_on_with_choices() {
+    let mut random = Random(5);
+    for count in [0, 1, 2, 8, 95, 96, 97, 300] {
+        for told in [0, 1, 2, 7, 8, 9, 95, 96, 97, 300] {
+            let mut pages: Vec<Page> = (0..count).map(|_| random.page()).collect();
+            let mut choices: Vec<Choice> = (0..told).map(|_| random.choice()).collect();
+            let before = pages.clone();
+            let (unpaged, answer) = lent::power_on_with(&mut pages, &choices);
+            assert_eq!(unpaged, Unpaged::power_on());
+            if count == 0 || count > 96 {
+                assert_eq!((answer, pages), (15, before));
+                continue;
+            }
+            if count != told {
+                assert_eq!((answer, pages), (27, vec![Page::power_on(); count]));
+                continue;
+            }
+            assert_eq!(answer, 0);
+            for (page, choice) in pages.iter().zip(&choices) {
+                assert_eq!(*page, Page::power_on_with(choice));
+            }
+            choices[told - 1].formats[2] = Format::direct(0, 0, 0);
+            let (unpaged, answer) = lent::power_on_with(&mut pages, &choices);
+            assert_eq!((unpaged, answer), (Unpaged::power_on(), 27));
+            assert_eq!(pages, vec![Page::power_on(); count]);
+        }
     }
 }
 

@@ -2,7 +2,7 @@
 
 mod common;
 use common::*;
-use reference::device::{Device, Machine, Page, Reading};
+use reference::device::{Device, Format, Machine, Page, Reading};
 
 /// Makes every kind of call on a state that must get 15 and stay as it is.
 fn all_calls_get_15(mut state: Device) {
@@ -65,6 +65,22 @@ fn answer_15_fields_of_every_page() {
 }
 
 #[test]
+fn answer_15_a_format_of_any_quantity_of_any_page() {
+    for page in 0..8 {
+        for quantity in 0..3 {
+            for (m, r) in [(0, 0), (1, 7), (1, -7), (-1, 127), (-1, -128), (0, 7)] {
+                let bad = Format::direct(m, 5, r);
+                all_calls_get_15(device(|device| device.pages[page].formats[quantity] = bad));
+            }
+            for (m, r) in [(1, 6), (-1, -6), (i16::MIN, 0), (i16::MAX, 1)] {
+                let good = Format::direct(m, i16::MIN, r);
+                assert!(device(|device| device.pages[page].formats[quantity] = good).valid());
+            }
+        }
+    }
+}
+
+#[test]
 fn every_other_field_may_hold_anything() {
     let mut state = device(|device| {
         device.cml = 0xFF;
@@ -89,6 +105,13 @@ fn every_other_field_may_hold_anything() {
                 measured: true,
                 word: 0xFFFF,
             }; 4],
+            // Under a linear mark coefficients are not looked at.
+            formats: [Format {
+                direct: false,
+                m: 0,
+                b: -1,
+                r: 127,
+            }; 3],
         }; 8];
     });
     assert!(state.valid());

@@ -2,7 +2,7 @@
 
 use crate::calls::GUARD;
 use crate::library::stream::SIZE;
-use crate::library::{self, Device, Page};
+use crate::library::{self, Device, Format, Page, PageChoice};
 use crate::mirror;
 use crate::random::Random;
 
@@ -119,7 +119,7 @@ fn walk(walk: &mut impl Walk, part: &mut Part, device: &mut Device) {
     walk.word(&mut unpaged.energy.rollover);
     walk.long(&mut unpaged.energy.count);
     for (number, page) in device.pages.iter_mut().enumerate() {
-        walk_page(walk, 34 + 54 * number, page);
+        walk_page(walk, 34 + 72 * number, page);
     }
     assert_eq!(walk.at(), SIZE);
 }
@@ -140,6 +140,17 @@ fn walk_page(walk: &mut impl Walk, from: usize, page: &mut Page) {
     walk.bytes(&mut page.status);
     assert_eq!(walk.at(), from + 53);
     walk.mark(&mut page.tripped);
+    walk_formats(walk, &mut page.formats);
+    assert_eq!(walk.at(), from + 72);
+}
+
+fn walk_formats(walk: &mut impl Walk, formats: &mut [Format; 3]) {
+    for format in formats {
+        walk.mark(&mut format.direct);
+        walk.word(&mut format.m);
+        walk.word(&mut format.b);
+        walk.byte(&mut format.r);
+    }
 }
 
 /// Takes each field from the buffer; in a mark any byte but 0 reads as 1.
@@ -206,6 +217,18 @@ pub fn device_in(buffer: &[u8]) -> reference::device::Device {
 
 pub fn encode(part: Part, device: Device) -> Vec<u8> {
     encode_with(part, device, &mut || 1)
+}
+
+/// Choices for power-on as bytes: for each page three formats, then six limits. Each mark that is set is some byte of `set`.
+pub fn encode_choices(choices: &[PageChoice], set: &mut dyn FnMut() -> u8) -> Vec<u8> {
+    let bytes = Vec::new();
+    let mut store = Store { bytes, set };
+    for choice in choices {
+        let mut choice = *choice;
+        walk_formats(&mut store, &mut choice.formats);
+        choice.limits.iter_mut().for_each(|limit| store.word(limit));
+    }
+    store.bytes
 }
 
 // ---- the buffer, lent

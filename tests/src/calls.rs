@@ -120,6 +120,7 @@ pub fn on_both(device: Device, call: &Call, before: u8) -> Outcome {
 pub fn random_call(random: &mut Random, unpaged: &Unpaged, pages: &[Page]) -> Call {
     match random.below(12) {
         0..=3 => Call::Write(write(random, unpaged, pages)),
+        4..=6 if random.once_in(4) => coefficients(random),
         4..=6 => read(random),
         7 => measure(random, unpaged, pages),
         8 => Call::Sample(sample(random)),
@@ -247,6 +248,38 @@ fn read(random: &mut Random) -> Call {
         3 => length(code).saturating_sub(1),
         4 | 5 => length(code),
         _ => length(code) + 1,
+    };
+    Call::Read(header, n)
+}
+
+/// COEFFICIENTS: mostly a whole header for a code that carries a value, and a number of bytes about that of the reply.
+fn coefficients(random: &mut Random) -> Call {
+    const VALUES: [u8; 12] = [
+        0x46, 0x4A, 0x4F, 0x51, 0x53, 0x55, 0x57, 0x58, 0x59, 0x88, 0x8C, 0x8D,
+    ];
+    let of = match random.below(4) {
+        0 => code(random),
+        _ => random.pick(&VALUES),
+    };
+    let other = random.u8();
+    let direction = random.pick(&[0x00, 0x01, 0x01, 0x02, other]);
+    let mut header = vec![0xC0, 0x30, 0x02, of, direction, 0xC1];
+    match random.below(16) {
+        0 => header[2] = random.pick(&[0x00, 0x01, 0x03, 0xFF]),
+        1 => drop(header.remove(random.below(6))),
+        2 => header.insert(random.below(7), other),
+        3 => header[5] = random.pick(&[0xC0, 0x00, 0xC3, 0xFF]),
+        4 if random.bool() => header[0] = random.pick(&[0xC1, 0x00, 0xC2, 0xFF]),
+        5 if random.bool() => header[1] = code(random),
+        _ => {}
+    }
+    let n = match random.below(8) {
+        0 => random.below(301),
+        1 => random.below(12),
+        2 => 8,
+        3 => 5,
+        4 | 5 => 6,
+        _ => 7,
     };
     Call::Read(header, n)
 }

@@ -2,6 +2,7 @@
 
 pub mod buffer;
 pub mod calls;
+pub mod headers;
 pub mod lending;
 pub mod library;
 pub mod mirror;

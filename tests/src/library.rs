@@ -21,7 +21,17 @@ pub struct Unpaged {
     pub energy: Account,
 }
 
-/// The first six limits are those of the causes, the others those of the warnings.
+/// The format of a quantity's words: Linear11, or DIRECT with m, b and r in two's complement.
+#[repr(C)]
+#[derive(Clone, Copy, Debug, PartialEq, Eq)]
+pub struct Format {
+    pub direct: bool,
+    pub m: u16,
+    pub b: u16,
+    pub r: u8,
+}
+
+/// The first six limits are those of the causes, the others those of the warnings. Formats are those of IOUT, VIN and temperature.
 #[repr(C)]
 #[derive(Clone, Copy, Debug, PartialEq, Eq)]
 pub struct Page {
@@ -34,6 +44,29 @@ pub struct Page {
     pub measured: [bool; 4],
     pub status: [u8; 4],
     pub tripped: bool,
+    pub formats: [Format; 3],
+}
+
+/// What is chosen for a page at power-on: formats, and fault limits by cause.
+#[repr(C)]
+#[derive(Clone, Copy, Debug, PartialEq, Eq)]
+pub struct PageChoice {
+    pub formats: [Format; 3],
+    pub limits: [u16; 6],
+}
+
+#[repr(C)]
+#[derive(Clone, Copy, Debug, PartialEq, Eq)]
+pub struct Choices {
+    pub pages: [PageChoice; 8],
+}
+
+/// How one value stands to another: 0 below, 1 equal, 2 above.
+#[repr(C)]
+#[derive(Clone, Copy, Debug, PartialEq, Eq)]
+pub struct Compared {
+    pub answer: u8,
+    pub order: u8,
 }
 
 #[repr(C)]
@@ -105,14 +138,19 @@ pub struct Converted {
 }
 
 mod archive {
-    use super::{Built, Converted, Device, Done, Outcome, Page, Reply, Taken, Totalizer, Unpaged};
+    use super::{
+        Built, Choices, Compared, Converted, Device, Done, Format, Outcome, Page, PageChoice,
+        Reply, Taken, Totalizer, Unpaged,
+    };
 
     extern "C" {
         pub fn tongsorrel_pec(bytes: *const u8, length: usize) -> u8;
         pub fn tongsorrel_pec_from(crc: u8, bytes: *const u8, length: usize) -> u8;
         pub fn tongsorrel_linear11_scaled(word: u16) -> i64;
         pub fn tongsorrel_linear11_compare(a: u16, b: u16) -> u8;
+        pub fn tongsorrel_compare(f: Format, a: u16, g: Format, b: u16) -> Compared;
         pub fn tongsorrel_power_on() -> Device;
+        pub fn tongsorrel_power_on_by(choices: Choices) -> Done;
         pub fn tongsorrel_write(d: Device, bytes: *const u8, length: usize) -> Done;
         pub fn tongsorrel_read(
             d: Device,
@@ -127,6 +165,12 @@ mod archive {
         pub fn tongsorrel_alert_response(d: Device, reply: *mut u8, n: usize) -> Done;
         pub fn tongsorrel_supplies(d: Device, page: u8) -> bool;
         pub fn tongsorrel_lent_power_on(pages: *mut Page, number: usize) -> Outcome;
+        pub fn tongsorrel_lent_power_on_by(
+            pages: *mut Page,
+            number: usize,
+            choices: *const PageChoice,
+            number_of_choices: usize,
+        ) -> Outcome;
         pub fn tongsorrel_lent_write(
             u: Unpaged,
             pages: *mut Page,
@@ -167,6 +211,12 @@ mod archive {
         ) -> Outcome;
         pub fn tongsorrel_lent_supplies(pages: *const Page, number: usize, page: u8) -> bool;
         pub fn tongsorrel_stream_power_on(state: *mut u8, length: usize) -> u8;
+        pub fn tongsorrel_stream_power_on_by(
+            state: *mut u8,
+            length: usize,
+            choices: *const u8,
+            length_of_choices: usize,
+        ) -> u8;
         pub fn tongsorrel_stream_start(state: *mut u8, length: usize) -> u8;
         pub fn tongsorrel_stream_byte(state: *mut u8, length: usize, byte: u8) -> u8;
         pub fn tongsorrel_stream_repeated_start(state: *mut u8, length: usize) -> u8;
@@ -246,8 +296,16 @@ pub fn linear11_compare(a: u16, b: u16) -> u8 {
     unsafe { archive::tongsorrel_linear11_compare(a, b) }
 }
 
+pub fn compare((f, a): (Format, u16), (g, b): (Format, u16)) -> Compared {
+    unsafe { archive::tongsorrel_compare(f, a, g, b) }
+}
+
 pub fn power_on() -> Device {
     unsafe { archive::tongsorrel_power_on() }
+}
+
+pub fn power_on_by(pages: [PageChoice; 8]) -> Done {
+    unsafe { archive::tongsorrel_power_on_by(Choices { pages }) }
 }
 
 pub fn write(d: Device, bytes: &[u8]) -> Done {
@@ -288,10 +346,16 @@ pub fn supplies(d: Device, page: u8) -> bool {
 
 /// The device over lent records.
 pub mod lent {
-    use super::{archive, Outcome, Page, Unpaged};
+    use super::{archive, Outcome, Page, PageChoice, Unpaged};
 
     pub fn power_on(pages: &mut [Page]) -> Outcome {
         unsafe { archive::tongsorrel_lent_power_on(pages.as_mut_ptr(), pages.len()) }
+    }
+
+    pub fn power_on_by(pages: &mut [Page], choices: &[PageChoice]) -> Outcome {
+        let (records, number) = (pages.as_mut_ptr(), pages.len());
+        let (chosen, choices) = (choices.as_ptr(), choices.len());
+        unsafe { archive::tongsorrel_lent_power_on_by(records, number, chosen, choices) }
     }
 
     pub fn write(u: Unpaged, pages: &mut [Page], bytes: &[u8]) -> Outcome {
@@ -349,12 +413,20 @@ pub mod stream {
     use super::archive;
 
     /// Bytes of the buffer.
-    pub const SIZE: usize = 466;
+    pub const SIZE: usize = 610;
+    /// Bytes of the choices for eight pages.
+    pub const CHOICES: usize = 240;
     pub const NACK: u8 = 0;
     pub const ACK: u8 = 1;
 
     pub fn power_on(state: &mut [u8]) -> u8 {
         unsafe { archive::tongsorrel_stream_power_on(state.as_mut_ptr(), state.len()) }
+    }
+
+    pub fn power_on_by(state: &mut [u8], choices: &[u8]) -> u8 {
+        let (bytes, length) = (state.as_mut_ptr(), state.len());
+        let (chosen, choices) = (choices.as_ptr(), choices.len());
+        unsafe { archive::tongsorrel_stream_power_on_by(bytes, length, chosen, choices) }
     }
 
     pub fn start(state: &mut [u8]) -> u8 {

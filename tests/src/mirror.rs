@@ -1,7 +1,7 @@
 //! A state of the library as the second program's and back: every field, and nothing lost. What the host gets likewise.
 
 use crate::library;
-use reference::device::{Account, Device, Machine, Page, Reading};
+use reference::device::{Account, Choice, Device, Format, Machine, Page, Reading};
 use reference::host::{Built, Reply};
 use reference::lent::Unpaged;
 use reference::totalizer::Totalizer;
@@ -68,6 +68,31 @@ fn machines_from_reference(machines: [Machine; 5]) -> [u8; 6] {
     bytes
 }
 
+pub fn format_to_reference(format: library::Format) -> Format {
+    Format {
+        direct: format.direct,
+        m: format.m as i16,
+        b: format.b as i16,
+        r: format.r as i8,
+    }
+}
+
+fn format_from_reference(format: Format) -> library::Format {
+    library::Format {
+        direct: format.direct,
+        m: format.m as u16,
+        b: format.b as u16,
+        r: format.r as u8,
+    }
+}
+
+pub fn choice_to_reference(choice: &library::PageChoice) -> Choice {
+    Choice {
+        formats: choice.formats.map(format_to_reference),
+        limits: choice.limits,
+    }
+}
+
 pub fn page_to_reference(page: &library::Page) -> Page {
     Page {
         operation: page.operation,
@@ -82,6 +107,7 @@ pub fn page_to_reference(page: &library::Page) -> Page {
             measured: page.measured[quantity],
             word: page.words[quantity],
         }),
+        formats: page.formats.map(format_to_reference),
     }
 }
 
@@ -99,6 +125,7 @@ pub fn page_from_reference(page: &Page) -> library::Page {
         measured: page.readings.map(|reading| reading.measured),
         status: page.status,
         tripped: page.tripped,
+        formats: page.formats.map(format_from_reference),
     }
 }
 

@@ -1,6 +1,6 @@
 //! Random states of the device and of the totalizer, most of which no run reaches.
 
-use crate::library::{Account, Device, Page, Totalizer, Unpaged};
+use crate::library::{Account, Device, Format, Page, PageChoice, Totalizer, Unpaged};
 use crate::random::Random;
 
 /// Response 47 is the second.
@@ -33,6 +33,72 @@ pub fn near(random: &mut Random, word: u16) -> u16 {
         }
         _ => self::word(random),
     }
+}
+
+/// Any coefficients, often at their ends or next to 0.
+fn coefficients(random: &mut Random) -> Format {
+    let (m, b) = (random.u16(), random.u16());
+    Format {
+        direct: random.bool(),
+        m: random.pick(&[m, m, 0x0001, 0xFFFF, 0x7FFF, 0x8000, 0x0000]),
+        b: random.pick(&[b, b, 0x0000, 0x0001, 0xFFFF, 0x7FFF, 0x8000]),
+        r: random.u8(),
+    }
+}
+
+/// A format that gets no answer 15 and no 27; under a linear mark the coefficients are anything.
+pub fn format(random: &mut Random) -> Format {
+    let format = coefficients(random);
+    if format.direct {
+        Format {
+            m: format.m.max(1),
+            r: (random.below(13) as u8).wrapping_sub(6),
+            ..format
+        }
+    } else {
+        format
+    }
+}
+
+/// A DIRECT format with m 0, R beyond -6 to 6, or both.
+pub fn invalid_format(random: &mut Random) -> Format {
+    let format = format(random);
+    let beyond = random.pick(&[7, 8, 0x7F, 0x80, 0xF8, 0xF9]);
+    let (m, r) = match random.below(3) {
+        0 => (0, random.pick(&[0x00, 0x06, 0xFA])),
+        1 => (format.m.max(1), beyond),
+        _ => (0, beyond),
+    };
+    Format {
+        direct: true,
+        m,
+        r,
+        ..format
+    }
+}
+
+/// A choice that power-on grants.
+pub fn choice(random: &mut Random) -> PageChoice {
+    PageChoice {
+        formats: std::array::from_fn(|_| format(random)),
+        limits: std::array::from_fn(|_| word(random)),
+    }
+}
+
+/// Choices that power-on grants, but once in four for one format of one of them.
+pub fn choices(random: &mut Random, number: usize) -> Vec<PageChoice> {
+    let mut choices: Vec<_> = (0..number).map(|_| choice(random)).collect();
+    if number > 0 && random.once_in(4) {
+        let (page, quantity) = (random.below(number), random.below(3));
+        choices[page].formats[quantity] = invalid_format(random);
+    }
+    choices
+}
+
+/// Choices for the eight pages.
+pub fn eight_choices(random: &mut Random) -> [PageChoice; 8] {
+    let choices = choices(random, 8);
+    std::array::from_fn(|page| choices[page])
 }
 
 pub fn response(random: &mut Random, cause: usize) -> u8 {
@@ -90,6 +156,7 @@ pub fn page(random: &mut Random) -> Page {
         measured: std::array::from_fn(|_| !random.once_in(4)),
         status: std::array::from_fn(|_| register(random)),
         tripped: random.once_in(4),
+        formats: std::array::from_fn(|_| format(random)),
     }
 }
 
@@ -167,12 +234,13 @@ pub fn totalizer(random: &mut Random) -> Totalizer {
 pub fn spoil(random: &mut Random, unpaged: &mut Unpaged, pages: &mut [Page]) {
     let number = pages.len() as u8;
     let page = &mut pages[random.below(usize::from(number))];
-    match random.below(6) {
+    match random.below(7) {
         0 => unpaged.page = random.pick(&[number, number + 1, 0x80, 0xFE]),
         1 => unpaged.protect = random.pick(&[0x01, 0x10, 0x21, 0x60, 0xA0, 0xC0, 0xFF]),
         2 => unpaged.energy = account_beyond(random),
         3 => page.operation = random.pick(&[0x01, 0x20, 0x41, 0x81, 0xC0, 0xFF]),
         4 => page.responses[IOUT_OC] = random.pick(&[0x80, 0x40, 0x01, 0x20, 0x81, 0xC1, 0xFF]),
+        5 => page.formats[random.below(3)] = invalid_format(random),
         _ => {
             let cause = random.below(6);
             let byte = random.pick(&[65, 66, 0x80, 0xC0, 0xFF]);
@@ -223,6 +291,7 @@ pub fn any_page(random: &mut Random) -> Page {
         measured: std::array::from_fn(|_| random.bool()),
         status: std::array::from_fn(|_| random.u8()),
         tripped: random.bool(),
+        formats: std::array::from_fn(|_| coefficients(random)),
     }
 }
 

@@ -53,3 +53,6 @@ pub const OUT_OF_RANGE: u8 = 25;
 
 // The host's transactions: the frame does not fit behind the place.
 pub const NO_ROOM: u8 = 26;
+
+// Power-on by a choice, and the comparison of two values: coefficients of a DIRECT format that are not valid, or another number of choices than records.
+pub const INVALID_FORMAT: u8 = 27;

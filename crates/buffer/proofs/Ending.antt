@@ -3,7 +3,7 @@
 use Prim.Native.Nat.{ℕ, suc, _+_, _-_, _<_, _≤_}
 use mathlib.Core.Path.{_≡_, refl, sym, ap, ap₂, _∙_}
 use mathlib.Core.Bool.{Bool, true, false, cond, _&&_, and-eq-true-iff}
-use mathlib.Core.List.{List, [], _∷_, append-nil}
+use mathlib.Core.List.{List, [], _∷_}
 use native.Mathlib.Omega.{arith}
 use lib.ListN.{length, getD, take, drop, replicate, length-append, length-take, length-replicate}
 use lib.Dec.{ltb, eqb}
@@ -247,28 +247,3 @@ module _ (s : List ℕ) (h : Held s) where
         g .1 ∙ ap₂ (λ (y : Device) (z : Part). storeDevice (endStores y z) m (ended y z .device)) d-is p-is
             ∙ ap (λ (n : List ℕ). storeDevice (endStores (deviceOf s) (partOf s)) n (ended (deviceOf s) (partOf s) .device)) is,
       )
-
--- ---- power-on
-
-pub power-fits : stateForm .Fits (state idle (powerOn (usual 8)))
-unfolding stateForm deviceForm
-power-fits =
-    let p = shape-fits powerOnPage power-on-shape in
-    rw (usual-device 8)
-    (part-fits idle idle-sized, (unpaged-fits powerOnUnpaged, (refl, (p, (p, (p, (p, (p, (p, (p, (p, tt)))))))))))
-
-whole-store : (s : List ℕ)
-    → storeAll pageForm (unpagedForm .store (partForm .store s 0 idle) unpagedAt powerOnUnpaged) pagesFrom (replicate 8 powerOnPage) ≡ stateForm .store s 0 (state idle (powerOn (usual 8)))
-unfolding stateForm partForm deviceForm unpagedForm accountForm
-whole-store s = rw (usual-device 8)
-
-pub powered-made : (s : List ℕ) → length s ≡ size → (p : Part) (u : Unpaged) (a b t : List ℕ) → p ≡ idle → u ≡ powerOnUnpaged
-    → a ≡ partForm .store s 0 p → b ≡ unpagedForm .store a unpagedAt u → t ≡ storeAll pageForm b pagesFrom (replicate 8 powerOnPage) → t ≡ powerFed s
-unfolding powerFed encode
-powered-made s l p u a b t ep eu ea eb et =
-    rw (eq-eqb (length s) size l)
-    (et ∙ ap (λ (m : List ℕ). storeAll pageForm m pagesFrom (replicate 8 powerOnPage)) (eb ∙ ap₂ (λ (m : List ℕ) (v : Unpaged). unpagedForm .store m unpagedAt v) (ea ∙ ap (partForm .store s 0) ep) eu)
-    ∙ whole-store s
-    ∙ ap (λ (m : List ℕ). stateForm .store m 0 (state idle (powerOn (usual 8)))) (sym (append-nil s))
-    ∙ state-back .stored (state idle (powerOn (usual 8))) power-fits [] s [] (l ∙ sym whole-wide)
-    ∙ append-nil (stateForm .put (state idle (powerOn (usual 8)))))

@@ -4,3 +4,4 @@ pub mod Held
 pub mod Stored
 pub mod Calling
 pub mod Ending
+pub mod Powering

@@ -10,25 +10,32 @@ use Rattle.cause.specs.Causes.{causes, warnings}
 use Rattle.retry.specs.Machines.{allAtCall, allAtTick}
 use Rattle.page.specs.declared.Page.{Page}
 use Rattle.page.specs.Page.{resting, powerOnPage}
+use Rattle.page.specs.Choice.{chosenLimits, chosenPage}
 use Rattle.page.specs.Causes.{settled, ticked, moved, raised}
 use Rattle.page.specs.Settings.{switchesOff, setOperation, setVoutCommand, setLimit, setResponse, setMeasurement, clearBits}
 use Rattle.writes.specs.declared.asked.Setting.{Setting}
 use Rattle.writes.specs.declared.asked.Write.{Write}
 use Rattle.writes.specs.Left.{applied, changed, cleared, pageLeft}
+use Rattle.layout.specs.Layout.{choiceForm}
 use Rattle.layout.proofs.Shapes.{Shape}
 
 pub power-on-shape : Shape powerOnPage
 unfolding powerOnPage causes warnings
-power-on-shape = record { limits = refl; responses = refl; machines = refl; words = refl; measured = refl; status = refl }
+power-on-shape = record { limits = refl; responses = refl; machines = refl; words = refl; measured = refl; status = refl; formats = refl }
+
+-- a page by a choice that stands in a list of bytes
+pub chosen-shape : (s : List ℕ) (o : ℕ) → Shape (chosenPage (choiceForm .get s o))
+unfolding choiceForm chosenPage chosenLimits powerOnPage causes warnings
+chosen-shape s o = record { limits = refl; responses = refl; machines = refl; words = refl; measured = refl; status = refl; formats = refl }
 
 module _ (p : Page) (h : Shape p) where
   pub settled-shape : Shape (settled p)
   unfolding settled moved raised allAtCall
-  settled-shape = record { limits = h .limits; responses = h .responses; machines = refl; words = h .words; measured = h .measured; status = refl }
+  settled-shape = record { limits = h .limits; responses = h .responses; machines = refl; words = h .words; measured = h .measured; status = refl; formats = h .formats }
 
   pub ticked-shape : Shape (ticked p)
   unfolding ticked moved allAtTick
-  ticked-shape = record { limits = h .limits; responses = h .responses; machines = refl; words = h .words; measured = h .measured; status = h .status }
+  ticked-shape = record { limits = h .limits; responses = h .responses; machines = refl; words = h .words; measured = h .measured; status = h .status; formats = h .formats }
 
   pub measured-shape : (q w : ℕ) → Shape (setMeasurement p q w)
   unfolding setMeasurement
@@ -39,6 +46,7 @@ module _ (p : Page) (h : Shape p) where
     words = length-set (p .words) (q % 4) w ∙ h .words;
     measured = length-set (p .measured) (q % 4) _ ∙ h .measured;
     status = h .status;
+    formats = h .formats;
   }
 
   applied-shape : (s : Setting) → Shape (applied s p)
@@ -50,8 +58,9 @@ module _ (p : Page) (h : Shape p) where
     words = h .words;
     measured = h .measured;
     status = h .status;
+    formats = h .formats;
   }
-  applied-shape (Setting.VoutCommand w) = record { limits = h .limits; responses = h .responses; machines = h .machines; words = h .words; measured = h .measured; status = h .status }
+  applied-shape (Setting.VoutCommand w) = record { limits = h .limits; responses = h .responses; machines = h .machines; words = h .words; measured = h .measured; status = h .status; formats = h .formats }
   applied-shape (Setting.Limit k w) = record {
     limits = length-set (p .limits) (k % 11) w ∙ h .limits;
     responses = h .responses;
@@ -59,6 +68,7 @@ module _ (p : Page) (h : Shape p) where
     words = h .words;
     measured = h .measured;
     status = h .status;
+    formats = h .formats;
   }
   applied-shape (Setting.Response k x) = record {
     limits = h .limits;
@@ -67,11 +77,12 @@ module _ (p : Page) (h : Shape p) where
     words = h .words;
     measured = h .measured;
     status = h .status;
+    formats = h .formats;
   }
 
   cleared-shape : (ms : List ℕ) → Shape (clearBits p ms)
   unfolding clearBits
-  cleared-shape ms = record { limits = h .limits; responses = h .responses; machines = h .machines; words = h .words; measured = h .measured; status = refl }
+  cleared-shape ms = record { limits = h .limits; responses = h .responses; machines = h .machines; words = h .words; measured = h .measured; status = refl; formats = h .formats }
 
 pub left-shape : (w : Write) (p : Page) → Shape p → Shape (pageLeft w p)
 unfolding pageLeft changed cleared

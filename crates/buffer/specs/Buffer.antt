@@ -8,7 +8,8 @@ use lib.Dec.{eqb}
 use Rattle.page.specs.declared.Page.{Page}
 use Rattle.reads.specs.Reply.{replyOf}
 use Rattle.device.specs.declared.Device.{Device}
-use Rattle.device.specs.Device.{device, usual, powerOn}
+use Rattle.device.specs.declared.Done.{Done}
+use Rattle.device.specs.Device.{device, choice, usual, powerOn, powerOnBy}
 use Rattle.device.specs.Step.{Call, write, answered, clocked, done, step}
 use Rattle.device.specs.Supply.{suppliesAt}
 use Rattle.device.specs.Touches.{touches}
@@ -17,7 +18,7 @@ use Rattle.bus.specs.Part.{writing, heard, idle}
 use Rattle.bus.specs.Automaton.{Event, start, byte, again, clock, stop, clockByte}
 use Rattle.bus.specs.Ack.{ackOf}
 use Rattle.stream.specs.Stream.{state, partNext, ended}
-use Rattle.layout.specs.Layout.{partForm, unpagedForm, pageForm, size, pagesFrom, unpagedAt}
+use Rattle.layout.specs.Layout.{partForm, unpagedForm, pageForm, size, pagesFrom, unpagedAt, choicesSize, choicesIn}
 use Rattle.layout.specs.State.{encode, ready, partOf, deviceOf}
 
 -- ---- what is left of the buffer
@@ -64,6 +65,14 @@ eventFed s e = cond (ready s) (takenOf s e) s
 unfoldable pub powerFed : List ℕ → List ℕ
 powerFed s = cond (eqb (length s) size) (encode (state idle (powerOn (usual 8)))) s
 
+-- Power-on by choices that come as bytes, with its answer: choices of another length than eight have, or of which one is not granted, get 27,
+-- and the device is then the usual one.
+unfoldable pub poweredBy : List ℕ → Done
+poweredBy cs = cond (eqb (length cs) choicesSize) (powerOnBy (choice (choicesIn cs))) (done (powerOn (usual 8)) 27)
+
+unfoldable pub powerByFed : List ℕ → List ℕ → List ℕ
+powerByFed s cs = cond (eqb (length s) size) (encode (state idle (poweredBy cs .device))) s
+
 -- ---- what is given
 
 -- START and repeated START: 0; a byte: 1 for ACK, 0 for NACK; a clocked byte: what is sent; STOP: the answer. And what is given of a buffer
@@ -94,6 +103,9 @@ callSends s c = cond (ready s) (step (deviceOf s) c .reply) (replyOf [] (clocked
 
 unfoldable pub powerGives : List ℕ → ℕ
 powerGives s = cond (eqb (length s) size) 0 15
+
+unfoldable pub powerByGives : List ℕ → List ℕ → ℕ
+powerByGives s cs = cond (eqb (length s) size) (poweredBy cs .answer) 15
 
 -- ---- what the firmware asks between two calls: whether a supply is on, and the alert up; of another length neither is
 

@@ -2,16 +2,19 @@
 -- Assumes nothing.
 use Prim.Native.Nat.{ℕ, _≤_}
 use mathlib.Core.Path.{_≡_}
-use mathlib.Core.Bool.{true}
+use mathlib.Core.Bool.{Bool, true, _&&_}
 use mathlib.Core.List.{List}
 use lib.ListN.{length, getD}
+use lib.Dec.{eqb}
+use Rattle.laws.specs.Lists.{allOf}
+use Rattle.page.specs.Choice.{pageGranted}
 use Rattle.reads.specs.Reply.{replyOf, streamOf}
 use Rattle.device.specs.declared.Device.{Device}
 use Rattle.device.specs.Device.{device, deviceValid}
 use Rattle.device.specs.Step.{Call, clocked, done, step}
 use Rattle.lent.specs.declared.turns.Sending.{Sending}
 use Rattle.layout.specs.Form.{octet, storeAll}
-use Rattle.layout.specs.Layout.{unpagedForm, size, unpagedAt}
+use Rattle.layout.specs.Layout.{unpagedForm, size, unpagedAt, choicesSize, choicesIn}
 use Rattle.layout.specs.State.{deviceOf}
 
 -- the right length, and a valid device
@@ -36,3 +39,7 @@ pub record Keeping (s : List ℕ) : Type 0 where
 -- the reply
 abbrev pub storeReply : List ℕ → List ℕ → List ℕ
 storeReply s r = storeAll octet s 14 r
+
+-- choices as bytes that power-on grants: as long as eight have to be, and each of them granted
+unfoldable pub choicesGranted : List ℕ → Bool
+choicesGranted cs = eqb (length cs) choicesSize && allOf pageGranted (choicesIn cs)

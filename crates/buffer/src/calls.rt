@@ -4,12 +4,15 @@ ghost use mathlib.Core.Path.{_≡_};
 ghost use mathlib.Core.List.{[]};
 ghost use lib.ListN.{length};
 ghost use Rattle.reads.specs.Reply.{replyOf};
+ghost use Rattle.device.specs.Device.{choice, powerOn};
 ghost use Rattle.device.specs.Step.{measure, sample, alertResponse, tick, step};
 ghost use Rattle.device.specs.Supply.{suppliesAt};
-ghost use Rattle.layout.specs.Layout.{size};
-ghost use Rattle.layout.specs.State.{deviceOf};
-ghost use Rattle.buffer.specs.Buffer.{stores, storeDevice, callFed, callGives, callSends, powerFed, powerGives, bufferSupplies, bufferAlert};
-ghost use Rattle.buffer.specs.Private.{Held, storeUnpaged, Answers};
+ghost use Rattle.bus.specs.Part.{idle};
+ghost use Rattle.stream.specs.Stream.{state};
+ghost use Rattle.layout.specs.Layout.{size, choicesSize, choicesIn};
+ghost use Rattle.layout.specs.State.{encode, deviceOf};
+ghost use Rattle.buffer.specs.Buffer.{stores, storeDevice, callFed, callGives, callSends, powerFed, powerGives, powerByFed, powerByGives, bufferSupplies, bufferAlert};
+ghost use Rattle.buffer.specs.Private.{Held, storeUnpaged, Answers, choicesGranted};
 use super::every_page;
 use layout::pages;
 use layout::part::save_part;
@@ -156,6 +159,44 @@ pub fn power_on(s: &mut [u8]) -> u8
         return answer::INVALID_STATE;
     }
     powered(s);
+    answer::DONE
+}
+
+// Power-on by choices that are granted.
+fn chosen(s: &mut [u8], choices: &[u8])
+    requires { ⌜ (length (now s) ≡ size) × (length (now choices) ≡ choicesSize) ⌝ }
+    ensures { λ _. ⌜ now (s .exit) ≡ encode (state idle (powerOn (choice (choicesIn (now (choices .entry)))))) ⌝ }
+{
+    let p = bus::idle();
+    let u = unpaged::power_on_unpaged();
+    save_part(s, 0, p);
+    save_unpaged(s, layout::UNPAGED, u);
+    every_page::choose_each(s, choices);
+}
+
+// Whether power-on grants these choices: as many bytes as eight choices have, and each with valid coefficients under its DIRECT marks.
+fn choices_granted(choices: &[u8]) -> bool
+    ensures { λ r. ⌜ r ≡ choicesGranted (now (choices .entry)) ⌝ }
+{
+    if choices.len() != layout::CHOICES {
+        return false;
+    }
+    layout::choices::all_granted(choices)
+}
+
+// Power-on of a buffer by a choice for each page: 0; 15 for a buffer of another length, which is left; 27 for choices that are not granted, and
+// the buffer is then as power_on leaves it.
+pub fn power_on_by(s: &mut [u8], choices: &[u8]) -> u8
+    ensures { λ r. ⌜ (r ≡ powerByGives (now (s .entry)) (now (choices .entry))) × (now (s .exit) ≡ powerByFed (now (s .entry)) (now (choices .entry))) ⌝ }
+{
+    if s.len() != layout::SIZE {
+        return answer::INVALID_STATE;
+    }
+    if !choices_granted(choices) {
+        powered(s);
+        return answer::INVALID_FORMAT;
+    }
+    chosen(s, choices);
     answer::DONE
 }
 

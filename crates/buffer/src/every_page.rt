@@ -5,11 +5,13 @@ ghost use mathlib.Core.List.{map};
 ghost use lib.ListN.{length, replicate};
 ghost use Rattle.laws.specs.Lists.{anyOf, anyPair};
 ghost use Rattle.page.specs.Page.{powerOnPage};
+ghost use Rattle.page.specs.Choice.{chosenPage};
 ghost use Rattle.page.specs.Causes.{ticked};
 ghost use Rattle.page.specs.Status.{anyStatus, risen};
 ghost use Rattle.writes.specs.Left.{pageLeft};
 ghost use Rattle.layout.specs.Form.{storeAll};
-ghost use Rattle.layout.specs.Layout.{pageForm, pagesIn, size, pagesFrom};
+ghost use Rattle.layout.specs.Layout.{pageForm, pagesIn, size, pagesFrom, choicesIn, choicesSize};
+use layout::choices::load_choice;
 use layout::page_record::load_page;
 use layout::page_record::save_page;
 use writes::Write;
@@ -99,6 +101,24 @@ pub fn power_on_each(s: &mut [u8])
     let mut k: usize = layout::PAGES;
     while i < 8 {
         save_page(s, k, p);
+        k += layout::PAGE;
+        i += 1;
+    }
+}
+
+// Every page as power-on leaves it by its choice.
+pub fn choose_each(s: &mut [u8], choices: &[u8])
+    requires { ⌜ (length (now s) ≡ size) × (length (now choices) ≡ choicesSize) ⌝ }
+    ensures { λ _. ⌜ now (s .exit) ≡ storeAll pageForm (now (s .entry)) pagesFrom (map chosenPage (choicesIn (now (choices .entry)))) ⌝ }
+{
+    let mut i: usize = 0;
+    let mut j: usize = 0;
+    let mut k: usize = layout::PAGES;
+    while i < 8 {
+        let c = load_choice(choices, j);
+        let p = page::chosen_page(c);
+        save_page(s, k, p);
+        j += layout::CHOICE;
         k += layout::PAGE;
         i += 1;
     }

@@ -17,7 +17,7 @@ isStatus c = leb 0x7A c && leb c 0x7E
 -- the command of a code that is none of them
 unfoldable pub otherOf : ℕ → Command
 otherOf c =
-    cond (ltb c 0x22) (settingOf c)
+    cond (ltb c 0x31) (settingOf c)
     (cond (ltb c 0x40) Absent
     (cond (ltb c 0x5B) (faultOf c)
     (cond (ltb c 0x78) Absent
@@ -38,7 +38,7 @@ module _ (c : ℕ) where
   status-command y =
       let b = status-bounds y in
       rw (
-        le-ltb c 0x22 (omega arith),
+        le-ltb c 0x31 (omega arith),
         le-ltb c 0x40 (omega arith),
         le-ltb c 0x5B (omega arith),
         le-ltb c 0x78 (omega arith),

@@ -5,8 +5,8 @@ use mathlib.Core.Path.{_≡_}
 use mathlib.Core.Bool.{false}
 use Rattle.command.specs.declared.table.Row.{Row}
 use Rattle.command.specs.declared.meaning.Command.{Command}
-use Rattle.command.specs.declared.meaning.Command.the-variants.{SelectPage, Operation, ClearFaults, WriteProtect, Capability, VoutMode, VoutCommand, Limit, Response, StatusByte, StatusWord, Status, ReadEin, Reading, Revision, Absent}
-use Rattle.command.specs.Table.{table, rowIn, lookup, NONE, R, W, RW}
+use Rattle.command.specs.declared.meaning.Command.the-variants.{SelectPage, Operation, ClearFaults, WriteProtect, Capability, VoutMode, VoutCommand, Limit, Response, StatusByte, StatusWord, Status, ReadEin, Reading, Revision, Absent, Coefficients}
+use Rattle.command.specs.Table.{table, rowIn, lookup, NONE, R, W, RW, P}
 use Rattle.command.specs.Meaning.{commandOf}
 
 -- the row of a code c that means this command
@@ -27,6 +27,7 @@ rowOf c ReadEin = (c, R, 7)
 rowOf c (Reading q) = (c, R, 2)
 rowOf c Revision = (c, R, 1)
 rowOf c Absent = (c, NONE, 0)
+rowOf c Coefficients = (c, P, 3)
 
 -- the two agree on the code c
 pub record Agrees (c : ℕ) : Type 0 where

@@ -3,3 +3,4 @@ pub mod Meaning
 pub mod Agreement
 pub mod Causes
 pub mod Paged
+pub mod Quantity

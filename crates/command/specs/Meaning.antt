@@ -4,9 +4,9 @@ use Prim.Native.Nat.{ℕ, _-_}
 use mathlib.Core.Bool.{cond}
 use lib.Dec.{eqb, ltb}
 use Rattle.command.specs.declared.meaning.Command.{Command}
-use Rattle.command.specs.declared.meaning.Command.the-variants.{SelectPage, Operation, ClearFaults, WriteProtect, Capability, VoutMode, VoutCommand, Limit, Response, StatusByte, StatusWord, Status, ReadEin, Reading, Revision, Absent}
+use Rattle.command.specs.declared.meaning.Command.the-variants.{SelectPage, Operation, ClearFaults, WriteProtect, Capability, VoutMode, VoutCommand, Limit, Response, StatusByte, StatusWord, Status, ReadEin, Reading, Revision, Absent, Coefficients}
 
--- 00h to 21h: page, operation, clearing, protection, constants, output voltage
+-- 00h to 30h: page, operation, clearing, protection, constants, output voltage, coefficients
 unfoldable pub settingOf : ℕ → Command
 settingOf c =
     cond (eqb c 0x00) SelectPage
@@ -16,7 +16,8 @@ settingOf c =
     (cond (eqb c 0x19) Capability
     (cond (eqb c 0x20) VoutMode
     (cond (eqb c 0x21) VoutCommand
-    Absent))))))
+    (cond (eqb c 0x30) Coefficients
+    Absent)))))))
 
 -- 40h to 5Ah: the limit and the response of each cause, and the limit of each warning, by their numbers (data sheet 6.1, 6.13)
 unfoldable pub faultOf : ℕ → Command
@@ -54,7 +55,7 @@ readingOf c =
 -- by rising bounds; 78h to 7Eh are the status registers
 unfoldable pub commandOf : ℕ → Command
 commandOf c =
-    cond (ltb c 0x22) (settingOf c)
+    cond (ltb c 0x31) (settingOf c)
     (cond (ltb c 0x40) Absent
     (cond (ltb c 0x5B) (faultOf c)
     (cond (ltb c 0x78) Absent

@@ -8,7 +8,7 @@ use lib.Dec.{eqb}
 use Rattle.command.specs.declared.table.Row.{Row}
 use Rattle.command.specs.declared.table.Entry.{Entry}
 
--- access: none, where the table has no row; read, written, both
+-- access: none, where the table has no row; read, written, both; or in a process call alone, whose data bytes are then those written in it
 abbrev pub NONE : ℕ
 NONE = 0
 
@@ -21,6 +21,9 @@ W = 2
 abbrev pub RW : ℕ
 RW = 3
 
+abbrev pub P : ℕ
+P = 4
+
 -- code, access, data bytes
 unfoldable pub table : List Row
 table =
@@ -31,6 +34,7 @@ table =
     ∷ (0x19, R, 1)  -- CAPABILITY
     ∷ (0x20, R, 1)  -- VOUT_MODE
     ∷ (0x21, RW, 2)  -- VOUT_COMMAND
+    ∷ (0x30, P, 3)  -- COEFFICIENTS
     ∷ (0x40, RW, 2)  -- VOUT_OV_FAULT_LIMIT
     ∷ (0x41, RW, 1)  -- VOUT_OV_FAULT_RESPONSE
     ∷ (0x42, RW, 2)  -- VOUT_OV_WARN_LIMIT

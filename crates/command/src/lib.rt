@@ -1,6 +1,7 @@
-// The command codes: their table of access and data length, what each of them means, and which act on a page.
+// The command codes: their table of access and data length, what each of them means, which act on a page, and which carry values.
 pub mod meaning;
 pub mod paged;
+pub mod quantity;
 pub mod table;
 
 pub use meaning::Command;

@@ -23,9 +23,10 @@ pub enum Command {
     Reading(u8),
     Revision,
     Absent,
+    Coefficients,
 }
 
-// 00h to 21h: page, operation, protection, output voltage
+// 00h to 30h: page, operation, protection, output voltage, coefficients
 fn setting_of(code: u8) -> Command
     ensures { λ r. ⌜ r ≡ settingOf code ⌝ }
 {
@@ -37,6 +38,7 @@ fn setting_of(code: u8) -> Command
         0x19 => Command::Capability,
         0x20 => Command::VoutMode,
         0x21 => Command::VoutCommand,
+        0x30 => Command::Coefficients,
         _ => Command::Absent,
     }
 }
@@ -87,7 +89,7 @@ pub fn command_of(code: u8) -> Command
     ensures { λ r. ⌜ r ≡ commandOf code ⌝ }
 {
     match code {
-        0x00..=0x21 => setting_of(code),
+        0x00..=0x30 => setting_of(code),
         0x40..=0x5A => fault_of(code),
         0x78 => Command::StatusByte,
         0x79 => Command::StatusWord,

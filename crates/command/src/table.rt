@@ -6,18 +6,16 @@ ghost use Rattle.command.specs.Table.{told, rowIn, entryOf, lookup};
 // A row: code, access, number of data bytes (a PEC byte not counted).
 pub struct Row(pub u8, pub u8, pub u8);
 
-// Access: none, where the table has no row; read, written, both.
+// Access: none, where the table has no row; read; written. Both is 3, and 4 is a process call alone, whose data bytes are those written in it.
 const NONE: u8 = 0;
 
 const R: u8 = 1;
 
 const W: u8 = 2;
 
-const RW: u8 = 3;
-
 // Each row is one number of four hexadecimal digits: two of the code, one of the access, one of the number of data bytes. As numbers the
 // rows come down to a jump by the code; as structs LLVM laid the whole table out on the stack at every look-up.
-const TABLE: [u16; 37] = [
+const TABLE: [u16; 38] = [
     0x0031, // PAGE
     0x0131, // OPERATION
     0x0320, // CLEAR_FAULTS
@@ -25,6 +23,7 @@ const TABLE: [u16; 37] = [
     0x1911, // CAPABILITY
     0x2011, // VOUT_MODE
     0x2132, // VOUT_COMMAND
+    0x3043, // COEFFICIENTS
     0x4032, // VOUT_OV_FAULT_LIMIT
     0x4131, // VOUT_OV_FAULT_RESPONSE
     0x4232, // VOUT_OV_WARN_LIMIT
@@ -67,11 +66,11 @@ pub struct Entry {
 }
 
 // The number of a code's row, with no access where t has none.
-fn row_in(t: [u16; 37], code: u8) -> u16
+fn row_in(t: [u16; 38], code: u8) -> u16
     ensures { λ r. ⌜ told r ≡ rowIn (map told t) code ⌝ }
 {
     let mut i: usize = 0;
-    while i < 37 {
+    while i < 38 {
         let row = t[i];
         if row / 256 == code as u16 {
             return row;

@@ -7,3 +7,4 @@ pub mod EveryPage
 pub mod Range
 pub mod Written
 pub mod Touches
+pub mod Built

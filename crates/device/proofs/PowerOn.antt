@@ -13,10 +13,11 @@ use Rattle.laws.proofs.Lists.{all-replicate}
 use Rattle.account.specs.Account.{account, accountValid}
 use Rattle.page.specs.declared.Page.{Page}
 use Rattle.page.specs.Page.{powerOnPage, noPage}
-use Rattle.page.specs.Choice.{PageChoice, usualPage, pageGranted, chosenPage}
+use Rattle.page.specs.declared.PageChoice.{PageChoice}
+use Rattle.page.specs.Choice.{usualPage, pageGranted, chosenPage}
 use Rattle.page.specs.Settings.{pageValid}
 use Rattle.page.proofs.Settled.{UpToDate}
-use Rattle.page.proofs.Chosen.{Sized, usual-page, chosen-valid, chosen-current, chosen-sized}
+use Rattle.page.proofs.Chosen.{Sized, usual-page, usual-page-granted, chosen-valid, chosen-current, chosen-sized}
 use Rattle.unpaged.specs.Unpaged.{powerOnUnpaged, validPage, validProtect}
 use Rattle.device.specs.declared.Device.{Device}
 use Rattle.device.specs.Device.{device, Choice, numberOf, choiceAt, usual, supported, granted, chosenUnpaged, powerOn, deviceValid, pageOf}
@@ -42,8 +43,8 @@ unfolding usual
 usual-number n = length-replicate n usualPage
 
 pub usual-granted : (n : ℕ) → granted (usual n) ≡ supported n
-unfolding granted usual pageGranted
-usual-granted n = rw (length-replicate n usualPage, all-replicate pageGranted n usualPage refl) (and-true (supported n))
+unfolding granted usual
+usual-granted n = rw (length-replicate n usualPage, all-replicate pageGranted n usualPage usual-page-granted) (and-true (supported n))
 
 pub usual-unpaged : (n : ℕ) → chosenUnpaged (usual n) ≡ powerOnUnpaged
 unfolding chosenUnpaged

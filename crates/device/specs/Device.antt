@@ -2,26 +2,32 @@
 -- has eight.
 -- Assumes nothing.
 use Prim.Native.Nat.{ℕ}
-use mathlib.Core.Bool.{Bool, _&&_, _||_}
+use mathlib.Core.Bool.{Bool, cond, _&&_, _||_}
 use mathlib.Core.List.{List, map}
 use lib.ListN.{length, getD, replicate}
 use lib.Dec.{ltb}
 use Rattle.laws.specs.Lists.{allOf, anyOf, anyPair}
 use Rattle.page.specs.declared.Page.{Page}
 use Rattle.page.specs.Page.{noPage}
-use Rattle.page.specs.Choice.{PageChoice, usualPage, pageGranted, chosenPage}
+use Rattle.page.specs.declared.PageChoice.{PageChoice}
+use Rattle.page.specs.Choice.{usualPage, pageGranted, chosenPage}
 use Rattle.page.specs.Settings.{pageValid}
 use Rattle.page.specs.Status.{any, anyStatus, gains, risen}
 use Rattle.unpaged.specs.declared.Unpaged.{Unpaged}
 use Rattle.unpaged.specs.Unpaged.{powerOnUnpaged, unpagedValid, withAlert, shown}
 use Rattle.device.specs.declared.Device.{Device}
+use Rattle.device.specs.declared.Done.{Done}
 
 abbrev pub device : Unpaged → List Page → Device
 device u ps = record { unpaged = u; pages = ps }
 
--- What is chosen at power-on: for each page something, and so how many pages there are. What is chosen for the whole device is a field more.
+-- What is chosen at power-on: for each page its formats and limits, and so how many pages there are. What is chosen for the whole device is a
+-- field more.
 pub record Choice : Type 0 where
   pub pages : List PageChoice
+
+abbrev pub choice : List PageChoice → Choice
+choice cs = record { pages = cs }
 
 abbrev pub numberOf : Choice → ℕ
 numberOf x = length (x .pages)
@@ -49,8 +55,16 @@ chosenUnpaged x = powerOnUnpaged
 unfoldable pub powerOn : Choice → Device
 powerOn x = device (chosenUnpaged x) (map chosenPage (x .pages))
 
--- Every other state gets answer 15: PAGE, WRITE_PROTECT, the account, and OPERATION, the responses and the machines of every page are looked at,
--- and nothing else (data sheet 12.2).
+-- as many pages, with nothing else chosen
+abbrev pub plain : Choice → Choice
+plain x = usual (numberOf x)
+
+-- Power-on by a choice, with its answer. One that is not granted gets 27 and the device of as many pages with nothing else chosen.
+unfoldable pub powerOnBy : Choice → Done
+powerOnBy x = cond (granted x) (record { device = powerOn x; answer = 0 }) (record { device = powerOn (plain x); answer = 27 })
+
+-- Every other state gets answer 15: PAGE, WRITE_PROTECT, the account, and OPERATION, the responses, the machines and the formats of every page
+-- are looked at, and nothing else (data sheet 12.2).
 unfoldable pub deviceValid : Device → Bool
 deviceValid d = supported (length (d .pages)) && unpagedValid (length (d .pages)) (d .unpaged) && allOf pageValid (d .pages)
 

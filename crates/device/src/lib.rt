@@ -2,9 +2,10 @@
 // hands it back with the answer number. Any bytes, numbers and states are taken.
 ghost use mathlib.Core.Path.{_≡_};
 ghost use lib.ListN.{length};
-ghost use Rattle.device.specs.Device.{usual, powerOn};
+ghost use Rattle.device.specs.Device.{choice, usual, powerOn, powerOnBy};
 ghost use Rattle.device.specs.Step.{write, read, measure, sample, alertResponse, tick, step};
 use page::Page;
+use page::PageChoice;
 use unpaged::Unpaged;
 
 pub mod answers; // answers.rt: the test for answer 15, what a refusal leaves
@@ -33,6 +34,29 @@ pub fn power_on() -> Device
     Device {
         unpaged: u,
         pages: [p; 8],
+    }
+}
+
+// Power-on by a choice for each page. Coefficients that are not valid get 27, and the device is then that of power_on.
+pub fn power_on_by(choices: [PageChoice; 8]) -> Done
+    ensures { λ r. ⌜ r ≡ powerOnBy (choice choices) ⌝ }
+{
+    if pages::all_granted(choices) {
+        let u = unpaged::power_on_unpaged();
+        let ps = pages::chosen_pages(choices);
+        let d = Device {
+            unpaged: u,
+            pages: ps,
+        };
+        return Done {
+            device: d,
+            answer: answer::DONE,
+        };
+    }
+    let d = power_on();
+    Done {
+        device: d,
+        answer: answer::INVALID_FORMAT,
     }
 }
 

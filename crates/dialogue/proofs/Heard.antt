@@ -21,7 +21,7 @@ use Rattle.command.specs.Meaning.{commandOf, readingOf}
 use Rattle.command.specs.Agreement.{rowOf, TableAgrees}
 use Rattle.command.specs.declared.table.Row.{Row}
 use Rattle.command.specs.declared.meaning.Command.{Command}
-use Rattle.command.specs.declared.meaning.Command.the-variants.{SelectPage, Operation, ClearFaults, WriteProtect, Capability, VoutMode, VoutCommand, Limit, Response, StatusByte, StatusWord, Status, ReadEin, Reading, Revision, Absent}
+use Rattle.command.specs.declared.meaning.Command.the-variants.{SelectPage, Operation, ClearFaults, WriteProtect, Capability, VoutMode, VoutCommand, Limit, Response, StatusByte, StatusWord, Status, ReadEin, Reading, Revision, Absent, Coefficients}
 use Rattle.command.proofs.Agreement.{table-agrees}
 use Rattle.page.specs.declared.Page.{Page}
 use Rattle.page.specs.Causes.{weigh}
@@ -110,6 +110,7 @@ module _ (u : Unpaged) (p : Page) (c : ℕ) (rest : List ℕ) where
   again (Reading q) r v = word-again _ _ (omega arith)
   again Revision r v = refl
   again Absent r v = absurd (false≢true r)
+  again Coefficients r v = absurd (false≢true r)
 
 -- ---- an account passes its own tests
 
@@ -155,7 +156,7 @@ module _ (d : Device) (code : ℕ) (b : code < 256) (v : deviceValid d ≡ true)
   valid = valid-parts d v .energy
 
   long : length s ≡ lookup code .length
-  long = data-long (d .unpaged) (pageShown d) code b
+  long = data-long (d .unpaged) (pageShown d) code b r
 
   accepted : parseAnswer code check (s ++ more code s check) ≡ 0
   unfolding parseAnswer

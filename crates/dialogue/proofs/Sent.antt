@@ -39,9 +39,8 @@ module _ (code : ℕ) (bytes : List ℕ) where
       ∙ take-at bytes (x ∷ replicate (length bytes + 0) 255) (length bytes + 0) n ∙ sym (append-nil bytes)
 
 module _ (u : Unpaged) (p : Page) (code : ℕ) (b : code < 256) where
-  pub data-long : length (readData u p (commandOf code)) ≡ lookup code .length
-  unfolding RepliesFollow Bytes
-  data-long = replies-follow u p (0xC0 ∷ code ∷ 0xC1 ∷ []) 0 (omega arith, (b, (omega arith, tt))) .as-table
+  pub data-long : lookup code .read ≡ true → length (readData u p (commandOf code)) ≡ lookup code .length
+  data-long r = replies-follow .of-code u p code 0 b r .as-due
 
   pub sent-bytes : lookup code .read ≡ true → (check : Bool)
       → replyOf (readStream u p 0 (requestOf (readHeader code)) (readHeader code)) (readCount code check)
@@ -49,4 +48,4 @@ module _ (u : Unpaged) (p : Page) (code : ℕ) (b : code < 256) where
   unfolding readStream answersData readCount requestOf addressedOf plainOf requestData
   sent-bytes r check =
       let s = readData u p (commandOf code) in
-      rw r (ap (λ (k : ℕ). replyOf (checked (readHeader code) s) (clockedFor k check)) (sym data-long) ∙ clocked-reply code s check)
+      rw r (ap (λ (k : ℕ). replyOf (checked (readHeader code) s) (clockedFor k check)) (sym (data-long r)) ∙ clocked-reply code s check)

@@ -57,6 +57,7 @@ module _ (p q : Page) (a : AlikePages p q) where
   unfolding presentCauses crossed causes
   causes-alike =
       rw (
+        a .formats,
         a .words,
         a .measured,
         fault-limit 0 (omega arith),
@@ -114,6 +115,7 @@ settled-alike p q a = record {
   measured = a .measured;
   bits = λ j k h n. settled-bit p j k h ∙ ap₂ _||_ (a .bits j k h n) (caused-alike j k p q a n) ∙ sym (settled-bit q j k h);
   tripped = trip-alike p q a _ _ (called-alike p q a);
+  formats = a .formats;
 }
 
 pub ticked-alike : (p q : Page) → AlikePages p q → AlikePages (ticked p) (ticked q)
@@ -128,6 +130,7 @@ ticked-alike p q a = record {
   measured = a .measured;
   bits = a .bits;
   tripped = trip-alike p q a _ _ (ticked-machines p q a);
+  formats = a .formats;
 }
 
 -- brought up to date, a page is like one that is
@@ -145,6 +148,7 @@ current-alike p q a g = record {
       settled-bit p j k h ∙ ap₂ _||_ (a .bits j k h n) (caused-alike j k p q a n)
       ∙ either (caused q j k) (λ y. rw (y, g .latched j k h y)) (λ y. rw (y, or-false (statusBit q j k)));
   tripped = trip-alike p q a _ _ (called-alike p q a) ∙ current-trip q g;
+  formats = a .formats;
 }
 
 applied-alike : (s : Setting) (p q : Page) → AlikePages p q → AlikePages (applied s p) (applied s q)
@@ -159,6 +163,7 @@ applied-alike (Setting.Operation x) p q a = record {
   measured = a .measured;
   bits = a .bits;
   tripped = ap (λ (b : Bool). b && not (switchesOff x)) (a .tripped);
+  formats = a .formats;
 }
 applied-alike (Setting.VoutCommand w) p q a = record {
   operation = a .operation;
@@ -170,6 +175,7 @@ applied-alike (Setting.VoutCommand w) p q a = record {
   measured = a .measured;
   bits = a .bits;
   tripped = a .tripped;
+  formats = a .formats;
 }
 applied-alike (Setting.Limit k w) p q a = record {
   operation = a .operation;
@@ -181,6 +187,7 @@ applied-alike (Setting.Limit k w) p q a = record {
   measured = a .measured;
   bits = a .bits;
   tripped = a .tripped;
+  formats = a .formats;
 }
 applied-alike (Setting.Response k x) p q a = record {
   operation = a .operation;
@@ -192,6 +199,7 @@ applied-alike (Setting.Response k x) p q a = record {
   measured = a .measured;
   bits = a .bits;
   tripped = a .tripped;
+  formats = a .formats;
 }
 
 cleared-alike : (ms : List ℕ) (p q : Page) → AlikePages p q → AlikePages (clearBits p ms) (clearBits q ms)
@@ -207,6 +215,7 @@ cleared-alike ms p q a = record {
   bits = λ j k h n.
       clear-bit p ms j k h ∙ ap (λ (b : Bool). b && not (bit (getD ms j 0) k)) (a .bits j k h n) ∙ sym (clear-bit q ms j k h);
   tripped = a .tripped;
+  formats = a .formats;
 }
 
 pub measured-alike : (quantity word : ℕ) (p q : Page) → AlikePages p q
@@ -225,6 +234,7 @@ measured-alike quantity word p q a = settled-alike (setMeasurement p quantity wo
       measured = ap (λ (l : List Bool). set l (quantity % 4) true) (a .measured);
       bits = a .bits;
       tripped = a .tripped;
+      formats = a .formats;
     }
 
 pub left-alike : (w : Write) (p q : Page) → AlikePages p q → AlikePages (pageLeft w p) (pageLeft w q)
@@ -250,6 +260,7 @@ alike-self p = record {
   measured = refl;
   bits = λ j k h n. refl;
   tripped = refl;
+  formats = refl;
 }
 
 -- set on a page that is up to date, with k from 6 to 10
@@ -268,13 +279,14 @@ warn-limit-alike k w p low high g = current-alike (applied (Setting.Limit k w) p
       measured = refl;
       bits = λ j k h n. refl;
       tripped = refl;
+      formats = refl;
     }
 
 -- ---- what they show
 
 pub valid-alike : (p q : Page) → AlikePages p q → pageValid p ≡ pageValid q
 unfolding pageValid
-valid-alike p q a = rw (a .operation, a .responses, a .machines)
+valid-alike p q a = rw (a .operation, a .responses, a .machines, a .formats)
 
 pub supply-alike : SupplyAlike
 unfolding SupplyAlike supplies

@@ -22,6 +22,7 @@ use Rattle.history.proofs.WarningReplies.{reply-alike}
 use Rattle.history.proofs.Valid.{fifteen, reached-valid, no-fifteen}
 use Rattle.page.proofs.Presence.{present-exactly}
 use Rattle.page.proofs.Supplies.{supplies-exactly}
+use Rattle.history.proofs.Formats.{formats-stay}
 use Rattle.history.proofs.Presence.{present-means}
 use Rattle.history.proofs.Supplies.{held-off, supplies-asked}
 use Rattle.history.proofs.PowerOn.{power-on-quiet}
@@ -78,6 +79,7 @@ claims =
       alert-answered = alert-answered;
       totals-trusted = totals-trusted;
       present-exactly = present-exactly;
+      formats-stay = formats-stay;
       present-means = present-means;
       supplies-exactly = supplies-exactly;
       held-off = held-off;

@@ -4,6 +4,7 @@ use Prim.Native.Nat.{ℕ}
 use mathlib.Core.Path.{_≡_, ap, _∙_}
 use mathlib.Core.Bool.{true, _&&_, and-eq-true-iff}
 use mathlib.Core.List.{List, [], _∷_}
+use native.Mathlib.Omega.{arith}
 use lib.Dec.{eqb}
 use borrow.Author.Tests.{eqb-true, ne-eqb}
 use Rattle.laws.proofs.Branches.{either}
@@ -26,7 +27,7 @@ use Rattle.device.proofs.PowerOn.{powered}
 use Rattle.history.specs.Run.{next, answer}
 use Rattle.history.specs.Energy.{Turn, isEnergyReply, partOf, part, logPart, logAfter, CopiesOf, TrueCopies, TotalsTrusted}
 use Rattle.device.proofs.States.{answer-zero}
-use Rattle.history.proofs.Outcomes.{done-next, by-answer, sends-data}
+use Rattle.history.proofs.Outcomes.{done-next, by-answer, sends-code}
 use Rattle.history.proofs.Account.{energyOf, refused-keeps, write-keeps, read-keeps, measure-keeps, alert-keeps, tick-keeps}
 
 -- ---- an energy reply is the account's
@@ -48,7 +49,8 @@ module _ (d : Device) (header : List ℕ) (n : ℕ) where
       let a = and-eq-true-iff (eqb (codeOf header) 0x86 && eqb n 8) (eqb (answer d (read header n)) 0) .0 e in
       let b = and-eq-true-iff (eqb (codeOf header) 0x86) (eqb n 8) .0 (a .0) in
       let z = eqb-true (answer d (read header n)) 0 (a .1) in
-      let ein : header ≡ einHeader = sends-data d header n (ap answersData z) .spelled ∙ rw (eqb-true (codeOf header) 0x86 (b .0)) in
+      let is = eqb-true (codeOf header) 0x86 (b .0) in
+      let ein : header ≡ einHeader = sends-code d header n (ap answersData z) (λ e. omega arith) .spelled ∙ rw is in
       let eight = eqb-true n 8 (b .1) in
       rw (ein, eight) (of-ein d (rw (ein, eight) at z))
 

@@ -88,6 +88,7 @@ filled x m = record {
   measured = replicate 4 m;
   status = replicate 4 x;
   tripped = false;
+  formats = [];
 }
 
 abbrev firstOf : Page → ℕ → ℕ

@@ -22,6 +22,7 @@ pub mod Measured
 pub mod Stored
 pub mod StoredSteps
 pub mod ReadBack
+pub mod Formats
 pub mod Presence
 pub mod Supplies
 pub mod ValidFields

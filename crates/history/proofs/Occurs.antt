@@ -12,7 +12,10 @@ use borrow.Author.Tests.{eq-eqb, lt-ltb, lt-leb}
 use Rattle.laws.proofs.Branches.{either}
 use Rattle.laws.proofs.Every.{agree}
 use Rattle.laws.proofs.Places.{map-at}
-use Rattle.linear11.specs.Linear11.{signedOf, mantissa, exponent, scaledOf, orderOf, linearOrder, wordOrder}
+use Rattle.linear11.specs.Linear11.{signedOf, mantissa, exponent, orderOf, wordOrder}
+use Rattle.value.specs.Value.{ratioOrder, linearNum, linearDen}
+use Rattle.value.specs.Value as fraction
+use Rattle.value.specs.Format.{valueOf, valueOrder}
 use Rattle.retry.specs.Response.{delay}
 use Rattle.retry.specs.Machine.{hold, look, started, lessOne, atCall, atTick}
 use Rattle.retry.specs.Byte.{byteOf, machineOf, byteAtCall, byteAtTick}
@@ -116,7 +119,7 @@ computed : (k : ℕ) → k < 6 → (k ≡ 1 → ⊥) → (b : ℕ) → b < 65 �
 unfolding
     byteTo pageTo tickedTo responseTo powerOnPage changed applied setResponse setMeasurement settled ticked moved presentCauses crossed
     orderBy onSide causes warnings allAtCall allAtTick byteAtCall byteAtTick byteOf machineOf atCall atTick started hold look lessOne delay
-    wordOrder linearOrder orderOf scaledOf exponent mantissa signedOf
+    wordOrder valueOrder valueOf ratioOrder linearNum linearDen fraction.above fraction.under orderOf exponent mantissa signedOf
 computed zero h m = agree (byteTo 0) (λ b. b) 65 tt
 computed (suc zero) h m = absurd (m refl)
 computed (suc (suc zero)) h m = agree (byteTo 2) (λ b. b) 65 tt

@@ -3,9 +3,10 @@
 use Prim.Native.Nat.{ℕ, _<_}
 use mathlib.Core.Path.{_≡_, sym, ap, _∙_}
 use mathlib.Core.Bool.{true, false, false≢true}
+use mathlib.Core.Logic.{_⊎_}
 use mathlib.Core.List.{List}
 use lib.Dec.{eqb}
-use lib.ListN.{length}
+use lib.ListN.{length, getD}
 use borrow.Author.Tests.{eqb-true, eqb-false, eq-eqb, ne-eqb}
 use Rattle.laws.proofs.Branches.{either}
 use Rattle.laws.proofs.Places.{map-at}
@@ -19,7 +20,7 @@ use Rattle.writes.specs.Accepted.{Acceptable}
 use Rattle.writes.proofs.Accepted.{acceptable, accepting}
 use Rattle.writes.proofs.Kept.{energy-kept}
 use Rattle.reads.specs.Answers.{answersData}
-use Rattle.reads.proofs.Requests.{Sends, sends}
+use Rattle.reads.proofs.Requests.{SendsPlain, SendsCoefficients, sends, sends-plain}
 use Rattle.device.specs.declared.Device.{Device}
 use Rattle.device.specs.Device.{deviceValid, pageOf, pageShown, alertRisen, alertStanding}
 use Rattle.device.specs.Step.{Call, write, read, tick, answerOf, answered, effect, refusedDevice, left, step, written, writtenTo}
@@ -29,11 +30,17 @@ use Rattle.history.specs.Run.{next, answer}
 use Rattle.history.specs.Refusals.{Refused}
 use Rattle.history.specs.Accepted.{TakesEffect}
 
--- a read that sends data has a header C0h, code, C1h
-pub sends-data : (d : Device) (header : List ℕ) (n : ℕ) → answersData (answer d (read header n)) ≡ true → Sends header
-unfolding step answered answerOf answersData
-sends-data d header n y =
-    either (deviceValid d) (λ v. sends (d .unpaged) (pageShown d) header n (rw v at y)) (λ v. absurd (false≢true (rw v at y)))
+-- a read that sends data has a header C0h, code, C1h, or asks for coefficients
+module _ (d : Device) (header : List ℕ) (n : ℕ) (y : answersData (answer d (read header n)) ≡ true) where
+  pub sends-data : SendsPlain header ⊎ SendsCoefficients header
+  unfolding step answered answerOf answersData
+  sends-data =
+      either (deviceValid d) (λ v. sends (d .unpaged) (pageShown d) header n (rw v at y)) (λ v. absurd (false≢true (rw v at y)))
+
+  pub sends-code : (getD header 1 0 ≡ 0x30 → ⊥) → SendsPlain header
+  unfolding step answered answerOf answersData
+  sends-code other =
+      either (deviceValid d) (λ v. sends-plain (d .unpaged) (pageShown d) header n (rw v at y) other) (λ v. absurd (false≢true (rw v at y)))
 
 module _ (d : Device) (c : Call) where
   pub done-next : answer d c ≡ 0 → next d c ≡ effect d c

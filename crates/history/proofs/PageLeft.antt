@@ -33,6 +33,7 @@ pub record Changed (p q : Page) (clear : ℕ → ℕ → Bool) (off : Bool) (res
   pub machines : (k : ℕ) → k < 6 → getD (q .machines) k 0 ≡ cond (rest k) 0 (getD (p .machines) k 0)
   pub responses : (k : ℕ) → k < 6 → rest k ≡ false → getD (q .responses) k 0 ≡ getD (p .responses) k 0
   pub ready : Ready p → Ready q
+  pub formats : q .formats ≡ p .formats
 
 -- nothing of the kind
 pub record Nothing (clear : ℕ → ℕ → Bool) (off : Bool) (rest : ℕ → Bool) : Type 0 where
@@ -51,13 +52,14 @@ nothing = record { bits = λ j k h. refl; trip = refl; machines = λ k h. refl }
 
 -- a change that leaves the status and the machines as they are
 plain : (p q : Page) → q .status ≡ p .status → q .tripped ≡ p .tripped → q .machines ≡ p .machines → q .responses ≡ p .responses → (Ready p → Ready q)
-    → Changed p q (λ j k. false) false (λ k. false)
-plain p q s t m r g = record {
+    → q .formats ≡ p .formats → Changed p q (λ j k. false) false (λ k. false)
+plain p q s t m r g f = record {
   bits = λ j k h. ap (λ (l : List ℕ). bit (getD l j 0) k) s ∙ sym (and-true (statusBit p j k));
   trip = t ∙ sym (and-true (p .tripped));
   machines = λ k h. ap (λ (l : List ℕ). getD l k 0) m;
   responses = λ k h n. ap (λ (l : List ℕ). getD l k 0) r;
   ready = g;
+  formats = f;
 }
 
 resting-at : (k : ℕ) → getD resting k 0 ≡ 0
@@ -78,6 +80,7 @@ module _ (p : Page) where
     machines = λ k h. either (eqb x 0x00 || eqb x 0x40) (λ y. rw y (resting-at k)) (λ n. rw n);
     responses = λ k h n. refl;
     ready = λ g. operation-ready p g x;
+    formats = refl;
   }
 
   responded : (m x : ℕ) → Changed p (setResponse p m x) (λ j k. false) false (restsSetting (Setting.Response m x))
@@ -89,13 +92,14 @@ module _ (p : Page) where
         (λ n. rw n (getD-set-other (p .machines) (m % 6) k 0 0 (eqb-false k (m % 6) n)));
     responses = λ k h n. getD-set-other (p .responses) (m % 6) k x 0 (eqb-false k (m % 6) n);
     ready = λ g. response-ready p g m x;
+    formats = refl;
   }
 
   changed-setting : (s : Setting) → Changed p (applied s p) (λ j k. false) (switchesOff s) (restsSetting s)
   unfolding applied setVoutCommand setLimit
   changed-setting (Setting.Operation x) = operated x
-  changed-setting (Setting.VoutCommand w) = plain p (setVoutCommand p w) refl refl refl refl (λ g. command-ready p g w)
-  changed-setting (Setting.Limit k w) = plain p (setLimit p k w) refl refl refl refl (λ g. limit-ready p g k w)
+  changed-setting (Setting.VoutCommand w) = plain p (setVoutCommand p w) refl refl refl refl (λ g. command-ready p g w) refl
+  changed-setting (Setting.Limit k w) = plain p (setLimit p k w) refl refl refl refl (λ g. limit-ready p g k w) refl
   changed-setting (Setting.Response k x) = responded k x
 
   cleared-bits : (ms : List ℕ) → Changed p (clearBits p ms) (λ j k. bit (getD ms j 0) k) false (λ k. false)
@@ -106,6 +110,7 @@ module _ (p : Page) where
     machines = λ k h. refl;
     responses = λ k h n. refl;
     ready = λ g. clear-ready p g ms;
+    formats = refl;
   }
 
   -- a write, on a page that it acts on
@@ -122,7 +127,7 @@ module _ (p : Page) where
   unfolding setMeasurement
   measured-page quantity word =
       touched (setMeasurement p quantity word) refl
-      (plain p (setMeasurement p quantity word) refl refl refl refl (λ g. measurement-ready p g quantity word)) refl
+      (plain p (setMeasurement p quantity word) refl refl refl refl (λ g. measurement-ready p g quantity word) refl) refl
 
 -- the same, said of equal tests
 module _ (p r r′ : Page) (clear clear′ : ℕ → ℕ → Bool) (off off′ : Bool) (rest rest′ : ℕ → Bool) (time : Bool) (b : r′ ≡ r)
@@ -145,4 +150,5 @@ module _ (p r r′ : Page) (clear clear′ : ℕ → ℕ → Bool) (off off′ :
         machines = λ k l. h .machines k l ∙ ap (λ (y : Bool). cond y 0 (getD (p .machines) k 0)) (sym (m k l));
         responses = λ k l n. h .responses k l (sym (m k l) ∙ n);
         ready = h .ready;
+        formats = h .formats;
       }) t

@@ -13,7 +13,8 @@ use Rattle.command.specs.Meaning.{commandOf}
 use Rattle.command.specs.Causes.{CausesAgree}
 use Rattle.command.proofs.Causes.{causes-agree}
 use Rattle.page.specs.declared.Page.{Page}
-use Rattle.page.specs.Choice.{PageChoice, chosenPage}
+use Rattle.page.specs.declared.PageChoice.{PageChoice}
+use Rattle.page.specs.Choice.{chosenPage}
 use Rattle.page.specs.Presence.{lineOf, Beyond, PresentExactly}
 use Rattle.page.specs.Status.{reading}
 use Rattle.page.proofs.Presence.{present-exactly}
@@ -24,7 +25,9 @@ use Rattle.device.specs.Device.{Choice, numberOf, choiceAt, powerOn, pageOf}
 use Rattle.device.specs.Step.{Call}
 use Rattle.history.specs.Run.{reached}
 use Rattle.history.specs.ReadBack.{latest, AllOnBus, stored, storedAt, startsAs, stores, writtenData}
+use Rattle.history.specs.Formats.{FormatsStay}
 use Rattle.history.specs.Presence.{limitRow, dataWord, limitNow, everMeasured, wordNow, Crossed, PresentMeans}
+use Rattle.history.proofs.Formats.{formats-stay}
 use Rattle.history.proofs.ReadBack.{stored-page, measured-word, ever-measured}
 use Rattle.history.proofs.Stored.{PageField, limit-field, Row, each-at, rows}
 
@@ -97,6 +100,10 @@ module _ (x : Choice) (cs : List Call) (i m : ℕ) (b : AllOnBus cs) (small : i 
       ∙ ap₂ (λ (code : ℕ) (start : List ℕ). latest (stores i code) writtenData (powerOn x) cs start) (code-at m h)
       (field-start m h (choiceAt x i)))
 
+  format-now : p .formats ≡ choiceAt x i .formats
+  unfolding FormatsStay
+  format-now = formats-stay x cs i small
+
   mark-now : getD (p .measured) q false ≡ everMeasured x cs i q
   mark-now = ever-measured x cs i small q few
 
@@ -109,12 +116,12 @@ module _ (x : Choice) (cs : List Call) (i m : ℕ) (b : AllOnBus cs) (small : i 
   word-now seen = sym (reads-word seen) ∙ measured-word x cs i small q few
 
   crossed : Beyond p m (lineOf m) → Crossed x cs i (limitRow m) (lineOf m)
-  crossed k = record { measured = sym mark-now ∙ k .measured; past = rw (word-now (k .measured), limit-now) at (k .past) }
+  crossed k = record { measured = sym mark-now ∙ k .measured; past = rw (format-now, word-now (k .measured), limit-now) at (k .past) }
 
   beyond : Crossed x cs i (limitRow m) (lineOf m) → Beyond p m (lineOf m)
   beyond k =
       let seen : getD (p .measured) q false ≡ true = mark-now ∙ k .measured in
-      record { measured = seen; past = rw (word-now seen, limit-now) (k .past) }
+      record { measured = seen; past = rw (format-now, word-now seen, limit-now) (k .past) }
 
 pub present-means : PresentMeans
 unfolding PresentMeans PresentExactly

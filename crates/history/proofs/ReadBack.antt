@@ -80,11 +80,10 @@ module _ (d : Device) (v : deviceValid d ≡ true) (code : ℕ) (small : code < 
   read-answer = answered-of d c v ∙ answers
 
   read-reply : step d c .reply ≡ readData (d .unpaged) (pageShown d) (commandOf code)
-  unfolding step answerOf sent RepliesFollow Bytes
+  unfolding step answerOf sent
   read-reply =
       rw (answered-of d c v)
-      (replies-follow (d .unpaged) (pageShown d) (0xC0 ∷ code ∷ 0xC1 ∷ []) (lookup code .length)
-      (omega arith, (small, (omega arith, tt))) .plain answers refl)
+      (replies-follow .of-code (d .unpaged) (pageShown d) code (lookup code .length) small readable .plain answers refl)
 
   pub reads-data : (bytes : List ℕ) → readData (d .unpaged) (pageShown d) (commandOf code) ≡ bytes → Reads d code bytes
   reads-data bytes e = record { accepted = read-answer; reply = read-reply ∙ e }

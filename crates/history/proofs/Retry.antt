@@ -24,7 +24,8 @@ use Rattle.retry.proofs.Within.{lets-on-in, lets-on-at-in, trips-at-in, at-most
 use Rattle.cause.specs.Causes.{causes, warnings}
 use Rattle.page.specs.declared.Page.{Page}
 use Rattle.page.specs.Page.{powerOnPage}
-use Rattle.page.specs.Choice.{PageChoice, chosenPage}
+use Rattle.page.specs.declared.PageChoice.{PageChoice}
+use Rattle.page.specs.Choice.{chosenPage}
 use Rattle.page.specs.Causes.{presentCauses, crossed, present, tripsAtOnce, moved, settled, ticked}
 use Rattle.page.proofs.Settled.{UpToDate}
 use Rattle.unpaged.specs.Unpaged.{cmlBits}

@@ -9,16 +9,18 @@ use native.Mathlib.Omega.{arith}
 use lib.Dec.{eqb}
 use lib.ListN.{length, getD, take}
 use borrow.Author.Tests.{eqb-true}
-use Rattle.laws.proofs.Branches.{either}
+use Rattle.laws.proofs.Branches.{either, cond-apply}
 use Rattle.laws.proofs.Every.{agree, agree-test}
 use Rattle.cause.specs.Causes.{causes, warnings, limitOf, responseOf}
 use Rattle.command.specs.Table.{table, entryOf, lookup}
 use Rattle.command.specs.Meaning.{commandOf, settingOf, faultOf}
 use Rattle.command.specs.Causes.{CausesAgree}
 use Rattle.command.proofs.Causes.{causes-agree}
+use Rattle.value.specs.Format.{linearFormat}
 use Rattle.page.specs.declared.Page.{Page}
 use Rattle.page.specs.Page.{powerOnPage}
-use Rattle.page.specs.Choice.{PageChoice, chosenPage}
+use Rattle.page.specs.declared.PageChoice.{PageChoice}
+use Rattle.page.specs.Choice.{chosenLimits, chosenPage}
 use Rattle.page.specs.Causes.{moved, settled, ticked}
 use Rattle.page.specs.Settings.{setMeasurement}
 use Rattle.page.proofs.Chosen.{Sized}
@@ -176,8 +178,14 @@ each-at P past [] none m h = absurd (not-suc-le-zero h)
 each-at P past (x ∷ l) (e also es) zero h = e
 each-at P past (x ∷ l) (e also es) (suc m) h = each-at P past l es m (le-of-suc-le-suc h)
 
+-- a limit of format f, chosen as that of cause n or else w
+starts : (c : PageChoice) (f n w : ℕ)
+    → wordBytes (cond (getD (c .formats) f linearFormat .direct) (getD (c .limits) n 0) w)
+    ≡ cond (getD (c .formats) f linearFormat .direct) (wordBytes (getD (c .limits) n 0)) (wordBytes w)
+starts c f n w = cond-apply wordBytes (getD (c .formats) f linearFormat .direct) (getD (c .limits) n 0) w
+
 pub rows : (c : PageChoice) → Each (Row c) stored
-unfolding causes warnings commandOf settingOf faultOf readData powerOnUnpaged powerOnPage chosenPage startsAs
+unfolding causes warnings commandOf settingOf faultOf readData powerOnUnpaged powerOnPage chosenPage chosenLimits startsAs
 rows c =
     record { field = onDevice page-field; powered = refl }
     also record { field = onPage operation-field; powered = refl }
@@ -186,18 +194,18 @@ rows c =
     also record { field = onPage (limit-field 0 (omega arith)); powered = refl }
     also record { field = onPage (response-field 0 (omega arith)); powered = refl }
     also record { field = onPage (limit-field 6 (omega arith)); powered = refl }
-    also record { field = onPage (limit-field 1 (omega arith)); powered = refl }
+    also record { field = onPage (limit-field 1 (omega arith)); powered = starts c 0 1 0xD280 }
     also record { field = onPage (response-field 1 (omega arith)); powered = refl }
-    also record { field = onPage (limit-field 7 (omega arith)); powered = refl }
-    also record { field = onPage (limit-field 2 (omega arith)); powered = refl }
+    also record { field = onPage (limit-field 7 (omega arith)); powered = starts c 0 1 0xD280 }
+    also record { field = onPage (limit-field 2 (omega arith)); powered = starts c 2 2 0xEB70 }
     also record { field = onPage (response-field 2 (omega arith)); powered = refl }
-    also record { field = onPage (limit-field 8 (omega arith)); powered = refl }
-    also record { field = onPage (limit-field 3 (omega arith)); powered = refl }
+    also record { field = onPage (limit-field 8 (omega arith)); powered = starts c 2 2 0xEB70 }
+    also record { field = onPage (limit-field 3 (omega arith)); powered = starts c 2 3 0xEEC0 }
     also record { field = onPage (response-field 3 (omega arith)); powered = refl }
-    also record { field = onPage (limit-field 4 (omega arith)); powered = refl }
+    also record { field = onPage (limit-field 4 (omega arith)); powered = starts c 1 4 0xD3FF }
     also record { field = onPage (response-field 4 (omega arith)); powered = refl }
-    also record { field = onPage (limit-field 9 (omega arith)); powered = refl }
-    also record { field = onPage (limit-field 10 (omega arith)); powered = refl }
-    also record { field = onPage (limit-field 5 (omega arith)); powered = refl }
+    also record { field = onPage (limit-field 9 (omega arith)); powered = starts c 1 4 0xD3FF }
+    also record { field = onPage (limit-field 10 (omega arith)); powered = starts c 1 5 0xC3F5 }
+    also record { field = onPage (limit-field 5 (omega arith)); powered = starts c 1 5 0xC3F5 }
     also record { field = onPage (response-field 5 (omega arith)); powered = refl }
     also none

@@ -2,6 +2,7 @@
 -- Assumes nothing.
 use Prim.Native.Nat.{ℕ, _<_, _%_}
 use mathlib.Core.Path.{_≡_, refl}
+use mathlib.Core.Logic.{⊎-elim}
 use mathlib.Core.Bool.{Bool, true, false, cond, _||_, false≢true}
 use native.Mathlib.Omega.{arith}
 use lib.Dec.{eqb, ltb}
@@ -12,7 +13,7 @@ use Rattle.laws.proofs.Every.{agree-test}
 use Rattle.laws.proofs.Lists.{byte-lt}
 use Rattle.cause.specs.Causes.{warnings}
 use Rattle.command.specs.declared.meaning.Command.{Command}
-use Rattle.command.specs.declared.meaning.Command.the-variants.{SelectPage, Operation, ClearFaults, WriteProtect, Capability, VoutMode, VoutCommand, Limit, Response, StatusByte, StatusWord, Status, ReadEin, Reading, Revision, Absent}
+use Rattle.command.specs.declared.meaning.Command.the-variants.{SelectPage, Operation, ClearFaults, WriteProtect, Capability, VoutMode, VoutCommand, Limit, Response, StatusByte, StatusWord, Status, ReadEin, Reading, Revision, Absent, Coefficients}
 use Rattle.command.specs.Meaning.{commandOf, settingOf, faultOf, readingOf}
 use Rattle.page.specs.declared.Page.{Page}
 use Rattle.page.specs.Page.{noPage}
@@ -28,7 +29,7 @@ use Rattle.history.specs.Run.{answer}
 use Rattle.history.specs.Warnings.{warnLimit, showsWarnings, AlikePages, Alike, AnswerAlike, ReplyAlike}
 use Rattle.history.proofs.AlikePages.{fault-limit, alike-self}
 use Rattle.history.proofs.Outcomes.{sends-data}
-use Rattle.history.proofs.Warnings.{answer-alike}
+use Rattle.history.proofs.Warnings.{answer-alike, page-shown}
 
 -- a command whose data show no warning
 abbrev plain : Command → Bool
@@ -48,6 +49,7 @@ plain ReadEin = true
 plain (Reading q) = true
 plain Revision = true
 plain Absent = true
+plain Coefficients = true
 
 plain-code : (c : ℕ) → c < 256 → showsWarnings c ≡ false → plain (commandOf c) ≡ true
 unfolding showsWarnings warnLimit warnings commandOf settingOf faultOf readingOf
@@ -78,18 +80,7 @@ module _ (u v : Unpaged) (page : u .page ≡ v .page) (protect : u .protect ≡ 
   data-alike (Reading x) h = rw (a .words, a .measured)
   data-alike Revision h = refl
   data-alike Absent h = refl
-
--- the selected page; there is none under FFh
-page-alike : (d e : Device) → Alike d e → (i : ℕ) → AlikePages (pageOf d i) (pageOf e i)
-page-alike d e a i =
-    either (ltb i (length (d .pages))) (λ y. a .pages i (ltb-true i (length (d .pages)) y))
-    (λ n. let past = ltb-false i (length (d .pages)) n in
-    let number = a .number in
-    rw (List·getD-eq-default (d .pages) noPage {n = i} past, List·getD-eq-default (e .pages) noPage {n = i} (omega arith)) (alike-self noPage))
-
-page-shown : (d e : Device) → Alike d e → AlikePages (pageShown d) (pageShown e)
-unfolding shown
-page-shown d e a = rw (a .page) (page-alike d e a (cond (eqb (e .unpaged .page) 0xFF) 0 (e .unpaged .page)))
+  data-alike Coefficients h = refl
 
 pub reply-alike : ReplyAlike
 unfolding ReplyAlike step sent readStream requestData AnswerAlike
@@ -99,5 +90,5 @@ reply-alike d e header n a b h =
     let bytes = data-alike (d .unpaged) (e .unpaged) (a .page) (a .protect) (a .cml) (a .energy) (pageShown d) (pageShown e)
     (page-shown d e a) (commandOf code) (plain-code code (byte-lt header b 1) h) in
     either (answersData (answer e (read header n)))
-    (λ y. rw (same, sends-data e header n y .asks, bytes))
+    (λ y. ⊎-elim (λ s. rw (same, s .asks, bytes)) (λ s. rw (same, s .asks, page-shown d e a .formats)) (sends-data e header n y))
     (λ no. rw (same, no))

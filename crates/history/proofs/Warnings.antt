@@ -2,13 +2,13 @@
 -- Assumes nothing.
 use Prim.Native.Nat.{ℕ, suc, _<_, _≤_}
 use mathlib.Core.Path.{_≡_, refl, sym, ap, ap₂, _∙_}
-use mathlib.Core.Bool.{Bool, true, false, _&&_, false≢true}
+use mathlib.Core.Bool.{Bool, true, false, cond, _&&_, false≢true}
 use mathlib.Core.List.{List, [], _∷_, _++_}
 use native.Mathlib.Omega.{arith}
-use lib.Dec.{eqb}
-use lib.ListN.{length, getD}
+use lib.Dec.{eqb, ltb}
+use lib.ListN.{length, getD, List·getD-eq-default}
 use lib.Bits.{bitOr, or-zero-r}
-use borrow.Author.Tests.{eqb-true}
+use borrow.Author.Tests.{eqb-true, ltb-true, ltb-false}
 use Rattle.laws.specs.Lists.{allOf, mapAt}
 use Rattle.laws.proofs.Branches.{either, cond-same, cond-apply}
 use Rattle.laws.proofs.Places.{length-map-at, map-at}
@@ -22,7 +22,7 @@ use Rattle.page.specs.Page.{noPage}
 use Rattle.page.specs.Causes.{settled, ticked}
 use Rattle.page.specs.Settings.{pageValid, setMeasurement}
 use Rattle.unpaged.specs.declared.Unpaged.{Unpaged}
-use Rattle.unpaged.specs.Unpaged.{actsOn, cmlBits, refused, unpagedValid}
+use Rattle.unpaged.specs.Unpaged.{actsOn, cmlBits, refused, unpagedValid, shown}
 use Rattle.unpaged.specs.Events.{alertAnswer}
 use Rattle.writes.specs.declared.asked.Setting.{Setting}
 use Rattle.writes.specs.declared.asked.Write.{Write}
@@ -55,6 +55,18 @@ pages-valid (x ∷ l) [] n a = absurd (omega arith)
 pages-valid (x ∷ l) (y ∷ m) n a =
     ap₂ _&&_ (valid-alike x y (a 0 (omega arith))) (pages-valid l m (omega arith) (λ i h. a (suc i) (omega arith)))
 
+-- the pages of two devices; past their number there is none
+page-alike : (d e : Device) → Alike d e → (i : ℕ) → AlikePages (pageOf d i) (pageOf e i)
+page-alike d e a i =
+    either (ltb i (length (d .pages))) (λ y. a .pages i (ltb-true i (length (d .pages)) y))
+    (λ n. let past = ltb-false i (length (d .pages)) n in
+    let number = a .number in
+    rw (List·getD-eq-default (d .pages) noPage {n = i} past, List·getD-eq-default (e .pages) noPage {n = i} (omega arith)) (alike-self noPage))
+
+pub page-shown : (d e : Device) → Alike d e → AlikePages (pageShown d) (pageShown e)
+unfolding shown
+page-shown d e a = rw (a .page) (page-alike d e a (cond (eqb (e .unpaged .page) 0xFF) 0 (e .unpaged .page)))
+
 module _ (d e : Device) (a : Alike d e) where
   device-valid : deviceValid d ≡ deviceValid e
   unfolding deviceValid unpagedValid
@@ -72,6 +84,7 @@ module _ (d e : Device) (a : Alike d e) where
   unfolding answerOf readAnswer
   read-answer header n =
       answer-same (d .unpaged) (e .unpaged) (pageShown d) (pageShown e) (requestOf header) n (ap (λ (x : ℕ). eqb x 0xFF) (a .page))
+      (page-shown d e a .formats)
 
   measure-answer : (page quantity word : ℕ) → answerOf d (measure page quantity word) ≡ answerOf e (measure page quantity word)
   unfolding answerOf

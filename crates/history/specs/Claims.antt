@@ -19,6 +19,7 @@ use Rattle.history.specs.Effects.{Effects}
 use Rattle.history.specs.ReadBack.{StoredCodes, WrittenBack, WriteThenRead, MeasuredBack}
 use Rattle.page.specs.Presence.{PresentExactly}
 use Rattle.page.specs.Supplies.{SuppliesExactly}
+use Rattle.history.specs.Formats.{FormatsStay}
 use Rattle.history.specs.Presence.{PresentMeans}
 use Rattle.history.specs.Supplies.{HeldOff, SuppliesAsked}
 use Rattle.history.specs.PowerOn.{PowerOnQuiet}
@@ -125,6 +126,8 @@ pub record Claims : Type 0 where
   -- ---- presence and supplying, a second time (Presence.antt, Supplies.antt, PowerOn.antt, `page`'s; data sheet 6.2, 7.6, 1.4)
   -- a cause or warning of a page is present exactly where its quantity was measured and lies strictly past its limit, by exact value
   pub present-exactly : PresentExactly
+  -- a page keeps the formats that were chosen for it at power-on
+  pub formats-stay : FormatsStay
   -- so after every run, by the latest measurement and the latest limit written, or power-on's
   pub present-means : PresentMeans
   -- a page supplies exactly when it is on, not tripped, kept off by no present cause and held off by no machine

@@ -18,11 +18,12 @@ use Rattle.totalizer.specs.Totalizer as totalizing
 use Rattle.pec.specs.Pec.{pec, pecFrom, pecByte, pecBit}
 use Rattle.command.specs.Table.{table, entryOf, lookup}
 use Rattle.command.specs.Meaning.{commandOf, readingOf}
+use Rattle.value.specs.Format.{formatValid}
 use Rattle.page.specs.Page.{powerOnPage}
 use Rattle.page.specs.Choice.{chosenPage}
 use Rattle.retry.specs.Machines.{allValid}
 use Rattle.cause.specs.Causes.{causes}
-use Rattle.page.specs.Settings.{pageValid, validOperation}
+use Rattle.page.specs.Settings.{pageValid, validOperation, formatsValid}
 use Rattle.unpaged.specs.Unpaged.{powerOnUnpaged, validPage, validProtect, unpagedValid, refused, shown}
 use Rattle.reads.specs.Request.{plainOf, addressedOf, requestOf}
 use Rattle.reads.specs.Answers.{dataAnswer, requestAnswer, readAnswer, answersData}
@@ -91,7 +92,7 @@ unfolding
     CopiesOccur
     turns TrueCopies CopiesOf AreCopies logAfter partOf logPart logCopies accountValid added sampled einBytes accountOf freshTotalizer
     energyReading clockedFor replyCheck checkHolds accountAnswer replyAnswer nextEnergy nextSamples booked totalize totalizing.added pec
-    pecFrom pecByte pecBit table
+    pecFrom pecByte pecBit table formatsValid formatValid
     entryOf lookup commandOf readingOf powerOnPage pageValid validOperation allValid causes powerOnUnpaged validPage validProtect unpagedValid
     refused shown plainOf addressedOf requestOf dataAnswer requestAnswer readAnswer answersData readData requestData checked readStream usual chosenPage
     chosenUnpaged powerOn supported deviceValid step

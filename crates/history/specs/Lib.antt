@@ -13,6 +13,7 @@ pub mod Energy
 pub mod EnergyExample
 pub mod Effects
 pub mod ReadBack
+pub mod Formats
 pub mod Presence
 pub mod Supplies
 pub mod ValidFields

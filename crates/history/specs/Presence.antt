@@ -49,10 +49,12 @@ everMeasured x cs i q = latest (measures i q) (λ c. true) (powerOn x) cs false
 abbrev pub wordNow : Choice → List Call → ℕ → ℕ → ℕ
 wordNow x cs i q = latest (measures i q) measuredWord (powerOn x) cs 0
 
--- that word lies past that limit
+-- that word lies past that limit, both by the format that was chosen for the page
 pub record Crossed (x : Choice) (cs : List Call) (i : ℕ) (row : ℕ × List ℕ) (line : ℕ × Side) : Type 0 where
   pub measured : everMeasured x cs i (line .0) ≡ true
-  pub past : Past (line .1) (valueOf (line .0) (wordNow x cs i (line .0))) (valueOf (line .0) (limitNow x cs i row))
+  pub past :
+      Past (line .1) (valueOf (choiceAt x i .formats) (line .0) (wordNow x cs i (line .0)))
+      (valueOf (choiceAt x i .formats) (line .0) (limitNow x cs i row))
 
 -- after every run, on every page, for each of the six causes and five warnings
 unfoldable pub PresentMeans : Type 0

@@ -1,7 +1,7 @@
 -- What was written is read back, and what was measured: said by the calls of a run and their answers, without the definition of what a call
 -- does to the state.
 -- Assumes nothing.
-use Prim.Native.Nat.{ℕ, _<_, _/_, _%_}
+use Prim.Native.Nat.{ℕ, _<_, _-_, _/_, _%_}
 use mathlib.Core.Path.{_≡_}
 use mathlib.Core.Bool.{Bool, true, false, cond, not, _&&_, _||_}
 use mathlib.Core.List.{List, [], _∷_, map}
@@ -10,8 +10,10 @@ use lib.ListN.{length, getD, take}
 use Rattle.laws.specs.Lists.{anyOf, Bytes}
 use Rattle.cause.specs.Causes.{readCodes}
 use Rattle.command.specs.Table.{lookup}
-use Rattle.page.specs.Choice.{PageChoice}
+use Rattle.page.specs.declared.PageChoice.{PageChoice}
+use Rattle.value.specs.Format.{linearFormat}
 use Rattle.unpaged.specs.Unpaged.{actsOn}
+use Rattle.reads.specs.Data.{wordBytes}
 use Rattle.writes.specs.Accepted.{codeOf}
 use Rattle.device.specs.declared.Device.{Device}
 use Rattle.device.specs.Device.{Choice, numberOf, choiceAt, granted, powerOn}
@@ -72,9 +74,28 @@ stored =
 abbrev pub storedAt : ℕ → ℕ × List ℕ
 storedAt m = getD stored m (0x00, [])
 
+-- The limits that start as chosen where their quantity is in DIRECT form, and a warning as the fault it warns of: code, quantity, cause.
+abbrev pub chosenRows : List (ℕ × ℕ × ℕ)
+chosenRows =
+    (0x46, 1, 1)  -- IOUT_OC_FAULT_LIMIT
+    ∷ (0x4A, 1, 1)  -- IOUT_OC_WARN_LIMIT
+    ∷ (0x4F, 3, 2)  -- OT_FAULT_LIMIT
+    ∷ (0x51, 3, 2)  -- OT_WARN_LIMIT
+    ∷ (0x53, 3, 3)  -- UT_FAULT_LIMIT
+    ∷ (0x55, 2, 4)  -- VIN_OV_FAULT_LIMIT
+    ∷ (0x57, 2, 4)  -- VIN_OV_WARN_LIMIT
+    ∷ (0x58, 2, 5)  -- VIN_UV_WARN_LIMIT
+    ∷ (0x59, 2, 5)  -- VIN_UV_FAULT_LIMIT
+    ∷ []
+
+abbrev pub chosenData : PageChoice → ℕ → List (ℕ × ℕ × ℕ) → List ℕ → List ℕ
+chosenData c code [] old = old
+chosenData c code (r ∷ rs) old =
+    cond (eqb (r .0) code && getD (c .formats) (r .1 - 1) linearFormat .direct) (wordBytes (getD (c .limits) (r .2) 0)) (chosenData c code rs old)
+
 -- what a row holds after power-on on a page, by what was chosen for it
 unfoldable pub startsAs : PageChoice → ℕ × List ℕ → List ℕ
-startsAs c r = r .1
+startsAs c r = chosenData c (r .0) chosenRows (r .1)
 
 -- they are all codes that are both written and read, but the status registers 7Ah to 7Eh
 unfoldable pub StoredCodes : Type 0

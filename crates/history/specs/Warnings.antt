@@ -37,6 +37,7 @@ pub record AlikePages (p q : Page) : Type 0 where
   pub measured : p .measured ≡ q .measured
   pub bits : (j k : ℕ) → j < 4 → warningBit j k ≡ false → statusBit p j k ≡ statusBit q j k
   pub tripped : p .tripped ≡ q .tripped
+  pub formats : p .formats ≡ q .formats
 
 -- two devices that differ in these, page by page, and in the alert at most
 pub record Alike (d e : Device) : Type 0 where

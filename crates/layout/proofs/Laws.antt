@@ -9,9 +9,11 @@ use native.Mathlib.Numerals.{add-one}
 use lib.ListN.{length, getD, set, take, drop, length-append, length-drop, take-append-drop, drop-of-length-le}
 use lib.Seq.{getD-append-seam, getD-append-add, set-append-seam, append-snoc, length-take-le, drop-cons}
 use lib.Dec.{eqb}
+use Rattle.value.specs.declared.format.Format.{Format}
+use Rattle.value.specs.Format.{linearFormat}
 use Rattle.unpaged.specs.declared.Unpaged.{Unpaged}
 use Rattle.layout.specs.Form.{Form, storeByte, storeWord, storeMark, octet, word, mark, both, array, via, putAll, getAll, storeAll, FitAll}
-use Rattle.layout.specs.Layout.{partFields, partTo, partFrom, partForm, longTo, longFrom, long, accountFields, accountTo, accountFrom, accountForm, unpagedFields, unpagedTo, unpagedFrom, unpagedForm, settingFields, valueFields, pageTo, pageFrom, pageForm, deviceTo, deviceFrom, deviceForm, stateTo, stateFrom, stateForm}
+use Rattle.layout.specs.Layout.{partFields, partTo, partFrom, partForm, longTo, longFrom, long, accountFields, accountTo, accountFrom, accountForm, unpagedFields, unpagedTo, unpagedFrom, unpagedForm, formatTo, formatFrom, formatFields, formatForm, formatsForm, settingFields, valueFields, pageTo, pageFrom, pageFields, pageForm, deviceTo, deviceFrom, deviceForm, stateTo, stateFrom, stateForm, choiceTo, choiceFrom, choiceFields, choiceForm}
 
 -- the value stands between any bytes a and b
 pub record Back {A : Type 0} (f : Form A) : Type 0 where
@@ -206,9 +208,33 @@ values-back : Back valueFields
 values-back =
     both-back _ _ (array-back word word-back 4) (both-back _ _ (array-back mark mark-back 4) (both-back _ _ (array-back octet octet-back 4) mark-back))
 
+pub format-back : Back formatForm
+unfolding formatForm
+format-back = via-back formatTo formatFrom formatFields (both-back _ _ mark-back (both-back _ _ word-back (both-back _ _ word-back octet-back))) (λ f. refl)
+
+-- every format fits
+pub format-fits : (f : Format) → formatForm .Fits f
+unfolding formatForm
+format-fits f = (tt, (tt, (tt, tt)))
+
+-- three formats, stored one by one
+pub three-stored : (s : List ℕ) (o : ℕ) (fs : List Format) → length fs ≡ 3
+    → storeAll formatForm s o fs
+    ≡ formatForm .store
+    (formatForm .store (formatForm .store s o (getD fs 0 linearFormat)) (o + formatForm .width) (getD fs 1 linearFormat))
+    (o + formatForm .width + formatForm .width) (getD fs 2 linearFormat)
+three-stored s o [] e = absurd (omega arith)
+three-stored s o (f ∷ []) e = absurd (omega arith)
+three-stored s o (f ∷ g ∷ []) e = absurd (omega arith)
+three-stored s o (f ∷ g ∷ h ∷ []) e = refl
+three-stored s o (f ∷ g ∷ h ∷ x ∷ l) e = absurd (omega arith)
+
 pub page-back : Back pageForm
 unfolding pageForm
-page-back = via-back pageTo pageFrom (both settingFields valueFields) (both-back settingFields valueFields settings-back values-back) (λ p. refl)
+page-back =
+    via-back pageTo pageFrom pageFields
+    (both-back settingFields (both valueFields formatsForm) settings-back (both-back valueFields formatsForm values-back (array-back formatForm format-back 3)))
+    (λ p. refl)
 
 pub device-back : Back deviceForm
 unfolding deviceForm
@@ -217,3 +243,8 @@ device-back = via-back deviceTo deviceFrom (both unpagedForm (array 8 pageForm))
 pub state-back : Back stateForm
 unfolding stateForm
 state-back = via-back stateTo stateFrom (both partForm deviceForm) (both-back partForm deviceForm part-back device-back) (λ s. refl)
+
+pub choice-back : Back choiceForm
+unfolding choiceForm
+choice-back =
+    via-back choiceTo choiceFrom choiceFields (both-back formatsForm (array 6 word) (array-back formatForm format-back 3) (array-back word word-back 6)) (λ c. refl)

@@ -10,7 +10,7 @@ use lib.ListN.{length, getD, set, take, drop, length-append, length-drop, take-a
 use lib.Seq.{length-take-le, take-add, getD-append-add, getD-take, getD-drop}
 use lib.Dec.{eqb}
 use Rattle.layout.specs.Form.{Form, octet, word, mark, both, array, via, getAll}
-use Rattle.layout.specs.Layout.{partFields, partTo, partFrom, partForm, longTo, longFrom, long, accountFields, accountTo, accountFrom, accountForm, unpagedFields, unpagedTo, unpagedFrom, unpagedForm, settingFields, valueFields, pageTo, pageFrom, pageForm, deviceTo, deviceFrom, deviceForm}
+use Rattle.layout.specs.Layout.{partFields, partTo, partFrom, partForm, longTo, longFrom, long, accountFields, accountTo, accountFrom, accountForm, unpagedFields, unpagedTo, unpagedFrom, unpagedForm, formatFields, formatTo, formatFrom, formatForm, formatsForm, settingFields, valueFields, pageFields, pageTo, pageFrom, pageForm, deviceTo, deviceFrom, deviceForm, choiceFields, choiceTo, choiceFrom, choiceForm}
 use Rattle.layout.proofs.Laws.{Back}
 
 -- ---- reading looks at the bytes of the place alone
@@ -80,12 +80,22 @@ settings-local = both-local _ _ octet-local (both-local _ _ word-local (both-loc
 values-local : Local valueFields
 values-local = both-local _ _ (all-local word word-local 4) (both-local _ _ (all-local mark mark-local 4) (both-local _ _ (all-local octet octet-local 4) mark-local))
 
-page-fields-local : Local (both settingFields valueFields)
-page-fields-local = both-local settingFields valueFields settings-local values-local
+format-fields-local : Local formatFields
+format-fields-local = both-local _ _ mark-local (both-local _ _ word-local (both-local _ _ word-local octet-local))
+
+format-local : Local formatForm
+unfolding formatForm
+format-local = via-local formatTo formatFrom formatFields format-fields-local
+
+formats-local : Local formatsForm
+formats-local = all-local formatForm format-local 3
+
+page-fields-local : Local pageFields
+page-fields-local = both-local settingFields (both valueFields formatsForm) settings-local (both-local valueFields formatsForm values-local formats-local)
 
 pub page-local : Local pageForm
 unfolding pageForm
-page-local = via-local pageTo pageFrom (both settingFields valueFields) page-fields-local
+page-local = via-local pageTo pageFrom pageFields page-fields-local
 
 device-fields-local : Local (both unpagedForm (array 8 pageForm))
 device-fields-local = both-local unpagedForm (array 8 pageForm) unpaged-local (all-local pageForm page-local 8)
@@ -93,6 +103,13 @@ device-fields-local = both-local unpagedForm (array 8 pageForm) unpaged-local (a
 pub device-local : Local deviceForm
 unfolding deviceForm
 device-local = via-local deviceTo deviceFrom (both unpagedForm (array 8 pageForm)) device-fields-local
+
+choice-fields-local : Local choiceFields
+choice-fields-local = both-local formatsForm (array 6 word) formats-local (all-local word word-local 6)
+
+pub choice-local : Local choiceForm
+unfolding choiceForm
+choice-local = via-local choiceTo choiceFrom choiceFields choice-fields-local
 
 -- ---- storing changes the bytes of the place alone
 

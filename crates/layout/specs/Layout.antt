@@ -4,7 +4,9 @@ use Prim.Native.Nat.{ℕ, _+_, _*_, _/_, _%_}
 use mathlib.Core.Bool.{Bool}
 use mathlib.Core.List.{List}
 use Rattle.account.specs.declared.Account.{Account}
+use Rattle.value.specs.declared.format.Format.{Format}
 use Rattle.page.specs.declared.Page.{Page}
+use Rattle.page.specs.declared.PageChoice.{PageChoice}
 use Rattle.unpaged.specs.declared.Unpaged.{Unpaged}
 use Rattle.bus.specs.declared.Part.{Part}
 use Rattle.device.specs.declared.Device.{Device}
@@ -72,6 +74,28 @@ unpagedFrom x = record { page = x .0; protect = x .1 .0; cml = x .1 .1 .0; alert
 unfoldable pub unpagedForm : Form Unpaged
 unpagedForm = via unpagedTo unpagedFrom unpagedFields
 
+-- ---- the format of a quantity: whether it is DIRECT, m, b, R
+
+abbrev pub FormatFields : Type 0
+FormatFields = Bool × (ℕ × (ℕ × ℕ))
+
+abbrev pub formatFields : Form FormatFields
+formatFields = both mark (both word (both word octet))
+
+abbrev pub formatTo : Format → FormatFields
+formatTo f = (f .direct, (f .m, (f .b, f .r)))
+
+abbrev pub formatFrom : FormatFields → Format
+formatFrom x = record { direct = x .0; m = x .1 .0; b = x .1 .1 .0; r = x .1 .1 .1 }
+
+-- 6 bytes
+unfoldable pub formatForm : Form Format
+formatForm = via formatTo formatFrom formatFields
+
+-- IOUT, VIN, temperature: 18 bytes
+abbrev pub formatsForm : Form (List Format)
+formatsForm = array 3 formatForm
+
 -- ---- a page
 
 abbrev pub SettingFields : Type 0
@@ -94,25 +118,32 @@ settingsTo p = (p .operation, (p .command, (p .limits, (p .responses, p .machine
 abbrev pub valuesTo : Page → ValueFields
 valuesTo p = (p .words, (p .measured, (p .status, p .tripped)))
 
-abbrev pub pageTo : Page → SettingFields × ValueFields
-pageTo p = (settingsTo p, valuesTo p)
+abbrev pub PageFields : Type 0
+PageFields = SettingFields × (ValueFields × List Format)
 
-abbrev pub pageFrom : SettingFields × ValueFields → Page
+abbrev pub pageFields : Form PageFields
+pageFields = both settingFields (both valueFields formatsForm)
+
+abbrev pub pageTo : Page → PageFields
+pageTo p = (settingsTo p, (valuesTo p, p .formats))
+
+abbrev pub pageFrom : PageFields → Page
 pageFrom x = record {
   operation = x .0 .0;
   command = x .0 .1 .0;
   limits = x .0 .1 .1 .0;
   responses = x .0 .1 .1 .1 .0;
   machines = x .0 .1 .1 .1 .1;
-  words = x .1 .0;
-  measured = x .1 .1 .0;
-  status = x .1 .1 .1 .0;
-  tripped = x .1 .1 .1 .1;
+  words = x .1 .0 .0;
+  measured = x .1 .0 .1 .0;
+  status = x .1 .0 .1 .1 .0;
+  tripped = x .1 .0 .1 .1 .1;
+  formats = x .1 .1;
 }
 
--- 54 bytes
+-- 72 bytes
 unfoldable pub pageForm : Form Page
-pageForm = via pageTo pageFrom (both settingFields valueFields)
+pageForm = via pageTo pageFrom pageFields
 
 -- ---- the whole state
 
@@ -122,7 +153,7 @@ deviceTo d = (d .unpaged, d .pages)
 abbrev pub deviceFrom : Unpaged × List Page → Device
 deviceFrom x = record { unpaged = x .0; pages = x .1 }
 
--- 444 bytes
+-- 588 bytes
 unfoldable pub deviceForm : Form Device
 deviceForm = via deviceTo deviceFrom (both unpagedForm (array 8 pageForm))
 
@@ -137,7 +168,7 @@ stateForm = via stateTo stateFrom (both partForm deviceForm)
 
 -- the length of a state buffer, where its pages begin, and the pages that stand there
 abbrev pub size : ℕ
-size = 466
+size = 610
 
 abbrev pub pagesFrom : ℕ
 pagesFrom = 34
@@ -146,7 +177,34 @@ abbrev pub unpagedAt : ℕ
 unpagedAt = 22
 
 abbrev pub pageWide : ℕ
-pageWide = 54
+pageWide = 72
 
 abbrev pub pagesIn : List ℕ → List Page
 pagesIn s = array 8 pageForm .get s pagesFrom
+
+-- ---- what is chosen at power-on: for each page its formats and the fault limits of the six causes
+
+abbrev pub ChoiceFields : Type 0
+ChoiceFields = List Format × List ℕ
+
+abbrev pub choiceFields : Form ChoiceFields
+choiceFields = both formatsForm (array 6 word)
+
+abbrev pub choiceTo : PageChoice → ChoiceFields
+choiceTo c = (c .formats, c .limits)
+
+abbrev pub choiceFrom : ChoiceFields → PageChoice
+choiceFrom x = record { formats = x .0; limits = x .1 }
+
+unfoldable pub choiceForm : Form PageChoice
+choiceForm = via choiceTo choiceFrom choiceFields
+
+-- the length of one choice, of all eight, and the choices that stand in a list of bytes
+abbrev pub choiceWide : ℕ
+choiceWide = 30
+
+abbrev pub choicesSize : ℕ
+choicesSize = 240
+
+abbrev pub choicesIn : List ℕ → List PageChoice
+choicesIn s = array 8 choiceForm .get s 0

@@ -19,6 +19,24 @@ pub fn four_words(s: &[u8], o: usize) -> [u16; 4]
     [a, b, c, d]
 }
 
+pub fn six_words(s: &[u8], o: usize) -> [u16; 6]
+    requires { ⌜ o + 12 ≤ length (now s) ⌝ }
+    ensures { λ r. ⌜ r ≡ array 6 word .get (now (s .entry)) o ⌝ }
+{
+    let a = word_at(s, o);
+    let o1 = o + 2;
+    let b = word_at(s, o1);
+    let o2 = o1 + 2;
+    let c = word_at(s, o2);
+    let o3 = o2 + 2;
+    let d = word_at(s, o3);
+    let o4 = o3 + 2;
+    let e = word_at(s, o4);
+    let o5 = o4 + 2;
+    let f = word_at(s, o5);
+    [a, b, c, d, e, f]
+}
+
 pub fn eleven_words(s: &[u8], o: usize) -> [u16; 11]
     requires { ⌜ o + 22 ≤ length (now s) ⌝ }
     ensures { λ r. ⌜ r ≡ array 11 word .get (now (s .entry)) o ⌝ }

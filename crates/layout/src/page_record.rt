@@ -6,6 +6,9 @@ ghost use Rattle.retry.specs.Machines.{allValid};
 ghost use Rattle.page.specs.Settings.{pageValid};
 ghost use Rattle.layout.specs.Form.{octet, array};
 ghost use Rattle.layout.specs.Layout.{settingFields, settingsTo, valueFields, valuesTo, pageForm, pageWide};
+use super::formats::formats_at;
+use super::formats::load_formats;
+use super::formats::save_formats;
 use super::leaf::mark_at;
 use super::leaf::put_byte;
 use super::leaf::put_bytes;
@@ -42,6 +45,8 @@ pub fn load_page(s: &[u8], o: usize) -> Page
     let status = four_bytes(s, o7);
     let o8 = o7 + 4;
     let tripped = mark_at(s, o8);
+    let o9 = o5 + 17;
+    let formats = load_formats(s, o9);
     Page {
         operation: operation,
         command: command,
@@ -52,6 +57,7 @@ pub fn load_page(s: &[u8], o: usize) -> Page
         measured: measured,
         status: status,
         tripped: tripped,
+        formats: formats,
     }
 }
 
@@ -83,7 +89,8 @@ fn machines_at(s: &[u8], o: usize) -> bool
     retry::valid(s[o5])
 }
 
-// Whether the page there is valid, from the eight bytes alone that the test is about: OPERATION, the response to IOUT_OC, the machines.
+// Whether the page there is valid, from those bytes alone that the test is about: OPERATION, the response to IOUT_OC, the machines, and of each
+// format the mark, under which m and R are looked at.
 pub fn valid_at(s: &[u8], o: usize) -> bool
     requires { ⌜ o + pageWide ≤ length (now s) ⌝ }
     ensures { λ r. ⌜ r ≡ pageValid (pageForm .get (now (s .entry)) o) ⌝ }
@@ -93,13 +100,18 @@ pub fn valid_at(s: &[u8], o: usize) -> bool
     let o3 = o2 + 22;
     let o4 = o3 + 1;
     let o5 = o3 + 6;
+    let o6 = o + 37;
+    let o7 = o6 + 17;
     if !page::settings::valid_operation(s[o]) {
         return false;
     }
     if !page::settings::valid_response(1, s[o4]) {
         return false;
     }
-    machines_at(s, o5)
+    if !machines_at(s, o5) {
+        return false;
+    }
+    formats_at(s, o7)
 }
 
 fn save_settings(s: &mut [u8], o: usize, p: Page)
@@ -140,7 +152,10 @@ pub fn save_page(s: &mut [u8], o: usize, p: Page)
     requires { ⌜ o + pageWide ≤ length (now s) ⌝ }
     ensures { λ _. ⌜ now (s .exit) ≡ pageForm .store (now (s .entry)) o p ⌝ }
 {
+    let formats = p.formats;
     save_settings(s, o, p);
     let o1 = o + 37;
     save_values(s, o1, p);
+    let o2 = o1 + 17;
+    save_formats(s, o2, formats);
 }

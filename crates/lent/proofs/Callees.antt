@@ -30,6 +30,8 @@ use Rattle.records.proofs.take as take
 use Rattle.records.proofs.put as put
 use Rattle.records.proofs.any_bit as any
 use Rattle.records.proofs.power_on as fill
+use Rattle.records.proofs.power_on_by as fill-by
+use Rattle.records.proofs.survey_choices as survey-choices
 use Rattle.records.proofs.tick as tick
 use Rattle.reads.proofs.reply.send as send
 
@@ -75,6 +77,12 @@ module _ {M : Type 1} (𝓤 : URA M) (H : Heap 𝓤) (A : Atoms 𝓤) (mem : Mem
 
   abbrev pub Fill : Contract 𝓤
   Fill = tripleOf 𝓤 H A fill.signature (fill.spec 𝓤 H A mem run)
+
+  abbrev pub FillBy : Contract 𝓤
+  FillBy = tripleOf 𝓤 H A fill-by.signature (fill-by.spec 𝓤 H A mem run)
+
+  abbrev pub SurveyChoices : Contract 𝓤
+  SurveyChoices = tripleOf 𝓤 H A survey-choices.signature (survey-choices.spec 𝓤 H A mem run)
 
   abbrev pub Tick : Contract 𝓤
   Tick = tripleOf 𝓤 H A tick.signature (tick.spec 𝓤 H A mem run)

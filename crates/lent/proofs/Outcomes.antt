@@ -23,7 +23,7 @@ use Rattle.writes.specs.Left.{pageLeft, unpagedLeft, clearing}
 use Rattle.device.specs.declared.Device.{Device}
 use Rattle.device.specs.Device.{device, deviceValid, supported}
 use Rattle.device.specs.Step.{write, measure, alertResponse, tick, answerOf, answered, effect, written, measured, tickedDevice, refusedDevice, left, done, step}
-use Rattle.device.proofs.PowerOn.{usual-device, usual-unpaged}
+use Rattle.device.proofs.PowerOn.{usual-number, usual-granted, usual-device, usual-unpaged}
 use Rattle.device.proofs.OnePage.{one-written, one-measured}
 use Rattle.device.proofs.EveryPage.{every-written}
 use Rattle.device.proofs.States.{valid-parts, answered-valid}
@@ -166,7 +166,10 @@ module _ (u : Unpaged) (ps : List Page) where
 -- power-on sets the records where its answer is 0
 pub powered-done : (ps : List Page) → poweredOutcome (length ps) .answer ≡ 0 → beside (poweredOutcome (length ps)) (replicate (length ps) powerOnPage) ≡ powered ps
 unfolding poweredBy poweredOutcome
-powered-done ps z = either (supported (length ps)) (λ y. rw (y, usual-device (length ps))) (λ n. let f : 15 ≡ 0 = rw n at z in absurd (omega arith))
+powered-done ps z =
+    either (supported (length ps))
+    (λ y. rw (y, usual-number (length ps), eq-eqb (length ps) (length ps) refl, usual-granted (length ps), y, usual-device (length ps)))
+    (λ n. let f : 15 ≡ 0 = rw n at z in absurd (omega arith))
 
 pub powered-kept : (ps : List Page) → (poweredOutcome (length ps) .answer ≡ 0 → ⊥) → beside (poweredOutcome (length ps)) ps ≡ powered ps
 unfolding poweredBy poweredOutcome

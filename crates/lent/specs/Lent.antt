@@ -19,7 +19,7 @@ use Rattle.reads.specs.declared.request.Request.{Request}
 use Rattle.reads.specs.Data.{readStream}
 use Rattle.reads.specs.Reply.{stream, alertStream}
 use Rattle.device.specs.declared.Done.{Done}
-use Rattle.device.specs.Device.{device, Choice, usual, supported, chosenUnpaged, powerOn}
+use Rattle.device.specs.Device.{device, Choice, numberOf, usual, supported, granted, chosenUnpaged, powerOn}
 use Rattle.device.specs.Step.{done}
 use Rattle.records.specs.declared.Seen.{Seen}
 use Rattle.lent.specs.declared.Outcome.{Outcome}
@@ -30,9 +30,13 @@ use Rattle.lent.specs.declared.turns.Sending.{Sending}
 abbrev pub beside : Outcome → List Page → Done
 beside r ps = done (device (r .unpaged) ps) (r .answer)
 
--- power-on by a choice for as many pages: with one to ninety-six records every one is set; with any other number the unpaged part alone
+-- Power-on by a choice. With one to ninety-six records every one is set: each by its own choice where there are as many and power-on grants them
+-- all; otherwise answer 27, and nothing else is chosen than so many pages. With any other number of records the unpaged part alone, and 15.
 unfoldable pub poweredBy : Choice → List Page → Done
-poweredBy x ps = cond (supported (length ps)) (done (powerOn x) 0) (done (device (chosenUnpaged x) ps) 15)
+poweredBy x ps =
+    cond (supported (length ps))
+    (cond (eqb (numberOf x) (length ps) && granted x) (done (powerOn x) 0) (done (powerOn (usual (length ps))) 27))
+    (done (device (chosenUnpaged x) ps) 15)
 
 abbrev pub powered : List Page → Done
 powered ps = poweredBy (usual (length ps)) ps
@@ -53,6 +57,10 @@ turn r p every clears = record { outcome = r; page = p; every = every; clears = 
 
 unfoldable pub poweredOutcome : ℕ → Outcome
 poweredOutcome n = outcome powerOnUnpaged (cond (supported n) 0 15)
+
+-- of n records by k choices, all of them granted or not
+unfoldable pub poweredByOutcome : ℕ → ℕ → Bool → Outcome
+poweredByOutcome n k all = outcome powerOnUnpaged (cond (supported n) (cond (eqb k n && all) 0 27) 15)
 
 -- what an answer other than 0 leaves,
 unfoldable pub refusedOutcome : Unpaged → ℕ → Outcome

@@ -9,10 +9,11 @@ ghost use lib.Dec.{ltb};
 ghost use lib.ListN.{length, getD};
 ghost use Rattle.page.specs.Page.{noPage};
 ghost use Rattle.page.specs.Status.{supplies};
-ghost use Rattle.device.specs.Device.{device};
+ghost use Rattle.device.specs.Device.{choice, device};
 ghost use Rattle.device.specs.Step.{write, read, measure, sample, alertResponse, tick, step};
-ghost use Rattle.lent.specs.Lent.{beside, powered};
+ghost use Rattle.lent.specs.Lent.{beside, powered, poweredBy};
 use page::Page;
+use page::PageChoice;
 use unpaged::Unpaged;
 
 pub mod every; // every.rt: one write on every record, where PAGE is FFh
@@ -36,6 +37,27 @@ pub extern "C" fn tongsorrel_lent_power_on(pages: &mut [Page]) -> Outcome
         return r;
     }
     records::power_on(pages);
+    r
+}
+
+// Sets every record by its choice. With another number of choices than of records, or where one is not granted, it sets every record as
+// tongsorrel_lent_power_on does and answers 27. With no record, or more than 96, it sets none and answers 15.
+#[no_mangle]
+pub extern "C" fn tongsorrel_lent_power_on_by(pages: &mut [Page], choices: &[PageChoice]) -> Outcome
+    ensures { λ r. ⌜ beside r (now (pages .exit)) ≡ poweredBy (choice (now (choices .entry))) (now (pages .entry)) ⌝ }
+{
+    let n = pages.len();
+    let k = choices.len();
+    let seen = records::survey_choices(choices);
+    let r = turns::powered_by(n, k, seen.valid);
+    if r.answer == answer::INVALID_STATE {
+        return r;
+    }
+    if r.answer != answer::DONE {
+        records::power_on(pages);
+        return r;
+    }
+    records::power_on_by(pages, choices);
     r
 }
 
@@ -146,8 +168,8 @@ pub extern "C" fn tongsorrel_lent_supplies(pages: &[Page], i: u8) -> bool
 
 // The layout of `Unpaged`, `Page` and `Outcome` has a number, which stands in this name: a program made for another does not link.
 #[no_mangle]
-pub extern "C" fn tongsorrel_lent_layout_1() -> u32
-    ensures { λ r. ⌜ r ≡ 1 ⌝ }
+pub extern "C" fn tongsorrel_lent_layout_2() -> u32
+    ensures { λ r. ⌜ r ≡ 2 ⌝ }
 {
-    1
+    2
 }

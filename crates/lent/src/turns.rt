@@ -10,7 +10,8 @@ ghost use Rattle.writes.specs.Answers.{writeAnswer};
 ghost use Rattle.writes.specs.Left.{pageLeft};
 ghost use Rattle.reads.specs.Request.{requestOf};
 ghost use Rattle.reads.specs.Answers.{readAnswer};
-ghost use Rattle.lent.specs.Lent.{seenValid, seenAnswer, outcome, poweredOutcome, refusedOutcome, acceptedTurn, measuredTurn, writeTurn, measureTurn, finished, sampleLeft, alertLeft, readTurn, alertTurn};
+ghost use Rattle.device.specs.Device.{supported};
+ghost use Rattle.lent.specs.Lent.{seenValid, seenAnswer, outcome, poweredOutcome, poweredByOutcome, refusedOutcome, acceptedTurn, measuredTurn, writeTurn, measureTurn, finished, sampleLeft, alertLeft, readTurn, alertTurn};
 use super::Outcome;
 use page::Page;
 use reads::reply::Stream;
@@ -48,6 +49,36 @@ pub fn powered(n: usize) -> Outcome
     Outcome {
         unpaged: u,
         answer: answer::INVALID_STATE,
+    }
+}
+
+// So many records make a device.
+fn lendable(n: usize) -> bool
+    ensures { λ r. ⌜ r ≡ supported n ⌝ }
+{
+    (0 < n) & (n < 97)
+}
+
+// Power-on of n records by k choices, all of them granted or not.
+pub fn powered_by(n: usize, k: usize, all: bool) -> Outcome
+    ensures { λ r. ⌜ r ≡ poweredByOutcome n k all ⌝ }
+{
+    let u = unpaged::power_on_unpaged();
+    if !lendable(n) {
+        return Outcome {
+            unpaged: u,
+            answer: answer::INVALID_STATE,
+        };
+    }
+    if (k == n) & all {
+        return Outcome {
+            unpaged: u,
+            answer: answer::DONE,
+        };
+    }
+    Outcome {
+        unpaged: u,
+        answer: answer::INVALID_FORMAT,
     }
 }
 

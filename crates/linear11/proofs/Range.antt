@@ -21,13 +21,18 @@ pub below-zero : (n m : ℕ) → n < m → pos n -ℤ pos m ≡ negsuc (m - suc 
 below-zero n zero h = absurd (omega arith)
 below-zero n (suc m) h = simp (lt-ltb n (suc m) h)
 
+-- a number in two's complement has at most the size of its high bit
+pub signed-size : (half n : ℕ) → n < half * 2 → natAbs (signedOf half n) ≤ half
+unfolding signedOf
+signed-size half n h =
+    either (ltb n half)
+    (λ e. rw e (omega (arith, ltb-true n half e)))
+    (λ e. rw (e, below-zero n (half * 2) h) (omega (arith, ltb-false n half e)))
+
 -- Y is -1024 to 1023
-mantissa-size : (word : ℕ) → natAbs (mantissa word) ≤ 1024
-unfolding mantissa signedOf
-mantissa-size word =
-    either (ltb (word % 2048) 1024)
-    (λ e. rw e (omega (arith, ltb-true (word % 2048) 1024 e)))
-    (λ e. rw (e, below-zero (word % 2048) 2048 (omega arith)) (omega (arith, ltb-false (word % 2048) 1024 e)))
+pub mantissa-size : (word : ℕ) → natAbs (mantissa word) ≤ 1024
+unfolding mantissa
+mantissa-size word = signed-size 1024 (word % 2048) (omega arith)
 
 -- N + 16 is the high five bits, with the highest turned over
 pub shift-is : (word : ℕ) → word < 2 ^ 16 → exponent word +ℤ pos 16 ≡ pos ((word / 2048 + 16) % 32)

@@ -1,7 +1,7 @@
 -- Answer 15, and which records a call changes, from what crate history says of `step`.
 -- Assumes nothing.
 use Prim.Native.Nat.{ℕ}
-use mathlib.Core.Path.{_≡_, refl, sym, ap, _∙_}
+use mathlib.Core.Path.{_≡_, refl, sym, ap, subst, _∙_}
 use mathlib.Core.List.{[]}
 use lib.ListN.{length, getD, replicate, length-replicate}
 use lib.Seq.{take-all}
@@ -25,7 +25,10 @@ use Rattle.history.proofs.Refusals.{unchanged}
 use Rattle.history.proofs.Runs.{same-length}
 use Rattle.history.proofs.Valid.{fifteen}
 use Rattle.lent.specs.Lent.{poweredBy}
-use Rattle.loans.specs.Changes.{FifteenExactly, RecordsStay, FifteenLeaves, FifteenReplies, PowerOnLeaves}
+use Rattle.lent.specs.PowerOn.{PoweredAs}
+use Rattle.lent.specs.PowerOn as lent
+use Rattle.lent.proofs.Powered.{power-on-by-leaves as lent-leaves}
+use Rattle.loans.specs.Changes.{FifteenExactly, RecordsStay, FifteenLeaves, FifteenReplies, PowerOnLeaves, PowerOnByLeaves}
 
 pub fifteen-exactly : FifteenExactly
 unfolding FifteenExactly Fifteen deviceValid
@@ -78,3 +81,7 @@ unfolding PowerOnLeaves poweredBy
 power-on-leaves ps o qs e h =
     let p = rw h at e in
     (ap (λ (x : Done). x .answer) p, ap (λ (x : Done). x .device .unpaged) p ∙ usual-unpaged (length ps), ap (λ (x : Done). x .device .pages) p)
+
+pub power-on-by-leaves : PowerOnByLeaves
+unfolding PowerOnByLeaves lent.PowerOnByLeaves
+power-on-by-leaves ps cs o qs e = subst (PoweredAs ps cs) (sym e) (lent-leaves ps cs)

@@ -16,8 +16,9 @@ use denote.Ref.{now}
 use denote.Triple.Entry.{Args, Res}
 use denote.Triple.Clauses.{Ended, AtExit, Clauses}
 use Rattle.device.specs.Step.{write, read, measure, sample, alertResponse, tick}
-use Rattle.loans.specs.Alike.{DeviceDone, DeviceReply, LentDone, LentReply, DevicePowered, LentPowered, DeviceSupplies, LentSupplies}
+use Rattle.loans.specs.Alike.{DeviceDone, DeviceReply, LentDone, LentReply, DevicePowered, LentPowered, DevicePoweredBy, LentPoweredBy, DeviceSupplies, LentSupplies}
 use Rattle.device.proofs.power_on as device-power-on
+use Rattle.device.proofs.power_on_by as device-power-on-by
 use Rattle.device.proofs.write as device-write
 use Rattle.device.proofs.read as device-read
 use Rattle.device.proofs.measure as device-measure
@@ -26,6 +27,7 @@ use Rattle.device.proofs.alert_response as device-alert
 use Rattle.device.proofs.tick as device-tick
 use Rattle.device.proofs.supply.supplies_page as device-supplies
 use Rattle.lent.proofs.tongsorrel_lent_power_on as lent-power-on
+use Rattle.lent.proofs.tongsorrel_lent_power_on_by as lent-power-on-by
 use Rattle.lent.proofs.tongsorrel_lent_write as lent-write
 use Rattle.lent.proofs.tongsorrel_lent_read as lent-read
 use Rattle.lent.proofs.tongsorrel_lent_measure as lent-measure
@@ -52,6 +54,10 @@ module _ {M : Type 1} (𝓤 : URA M) (H : Heap 𝓤) (A : Atoms 𝓤) (mem : Mem
   pub of-device-power-on : Ensures 𝓤 device-power-on.ended (device-power-on.clauses 𝓤 H A mem run)
       (λ κs a r e. ⌜ DevicePowered r ⌝)
   of-device-power-on κs a g r e = refl
+
+  pub of-device-power-on-by : Ensures 𝓤 device-power-on-by.ended (device-power-on-by.clauses 𝓤 H A mem run)
+      (λ κs a r e. ⌜ DevicePoweredBy (a .0) r ⌝)
+  of-device-power-on-by κs a g r e = refl
 
   pub of-device-write : Ensures 𝓤 device-write.ended (device-write.clauses 𝓤 H A mem run)
       (λ κs a r e. ⌜ DeviceDone (a .0) (write (now (a .1 .0))) r ⌝)
@@ -87,6 +93,10 @@ module _ {M : Type 1} (𝓤 : URA M) (H : Heap 𝓤) (A : Atoms 𝓤) (mem : Mem
   pub of-lent-power-on : Ensures 𝓤 lent-power-on.ended (lent-power-on.clauses 𝓤 H A mem run)
       (λ κs a r e. ⌜ LentPowered (now (a .0)) r (now (e .0)) ⌝)
   of-lent-power-on κs a g r e = refl
+
+  pub of-lent-power-on-by : Ensures 𝓤 lent-power-on-by.ended (lent-power-on-by.clauses 𝓤 H A mem run)
+      (λ κs a r e. ⌜ LentPoweredBy (now (a .0)) (now (a .1 .0)) r (now (e .0)) ⌝)
+  of-lent-power-on-by κs a g r e = refl
 
   pub of-lent-write : Ensures 𝓤 lent-write.ended (lent-write.clauses 𝓤 H A mem run)
       (λ κs a r e. ⌜ LentDone (a .0) (now (a .1 .0)) (write (now (a .1 .1 .0))) r (now (e .1 .0)) ⌝)

@@ -6,21 +6,22 @@ use mathlib.Core.List.{List, [], _∷_}
 use native.Mathlib.Omega.{arith}
 use lib.Dec.{eqb}
 use lib.ListN.{length}
+use borrow.Author.Tests.{eq-eqb}
 use Rattle.laws.proofs.Branches.{either}
 use Rattle.page.specs.declared.Page.{Page}
 use Rattle.writes.specs.Accepted.{codeOf}
 use Rattle.energy.specs.Reply.{Copy}
 use Rattle.energy.specs.Events.{Log, freshLog}
 use Rattle.device.specs.declared.Device.{Device}
-use Rattle.device.specs.Device.{device, Choice, powerOn, supported}
+use Rattle.device.specs.Device.{device, Choice, numberOf, usual, powerOn, supported, granted}
 use Rattle.device.specs.Step.{Call, write, read, measure, sample, alertResponse, tick, step}
-use Rattle.device.proofs.PowerOn.{granted-number}
+use Rattle.device.proofs.PowerOn.{usual-number, usual-granted, granted-number}
 use Rattle.history.specs.Run.{next, answer, run}
 use Rattle.history.specs.Energy.{Turn, isEnergyReply, partOf, part, logPart, logAfter, TrueCopies, TotalsTrusted}
 use Rattle.history.proofs.Energy.{totals-trusted}
 use Rattle.lent.specs.Lent.{poweredBy}
 use Rattle.loans.specs.Loans.{Loan}
-use Rattle.loans.specs.Runs.{LentCall, own, stray, strayPowerOn, lentNext, Gets15, StraysGet15, lentRun, ownResults, lentPart, lentCopies, lentLog, TrueLentCopies, ownTurns, ownCalls, results, started, ChosenFor, StraysDropOut, CarriesOver, LentEnergy}
+use Rattle.loans.specs.Runs.{LentCall, own, stray, strayPowerOn, lentNext, Gets15, StraysGet15, lentRun, ownResults, lentPart, lentCopies, lentLog, TrueLentCopies, ownTurns, ownCalls, results, started, ChosenFor, RefusedStarts, StraysDropOut, CarriesOver, LentEnergy}
 use Rattle.loans.proofs.Changes.{fifteen-stays}
 
 -- ---- a stray call
@@ -32,7 +33,12 @@ module _ (d : Device) (l : Loan) where
 
   unset : (x : Choice) (ps : List Page) → poweredBy x ps .answer ≡ 15 → poweredBy x ps .device .pages ≡ ps
   unfolding poweredBy
-  unset x ps z = either (supported (length ps)) (λ e. let no : 0 ≡ 15 = rw e at z in absurd (omega arith)) (λ e. rw e)
+  unset x ps z =
+      either (supported (length ps))
+      (λ e. either (eqb (numberOf x) (length ps) && granted x)
+      (λ t. let no : 0 ≡ 15 = rw (e, t) at z in absurd (omega arith))
+      (λ t. let no : 27 ≡ 15 = rw (e, t) at z in absurd (omega arith)))
+      (λ e. rw e)
 
   power-on-stays : (x : Choice) → poweredBy x (l .lent d .pages) .answer ≡ 15 → lentNext d (strayPowerOn x l) ≡ d
   unfolding lentNext
@@ -87,7 +93,22 @@ drop-copies d (strayPowerOn x l ∷ ms) h m = let s = power-on-stays d l x (h .0
 
 started-at : (x : Choice) (ps : List Page) → ChosenFor ps x → started x ps ≡ powerOn x
 unfolding poweredBy
-started-at x ps h = rw (← h .1, granted-number x (h .0), started)
+started-at x ps h = rw (← h .1, granted-number x (h .0), eq-eqb (numberOf x) (numberOf x) refl, h .0, started)
+
+pub refused-starts : RefusedStarts
+unfolding RefusedStarts poweredBy
+refused-starts x ps z =
+    let n = length ps in
+    either (supported n)
+    (λ s.
+    let number = usual-number n in
+    let grants : granted (usual n) ≡ true = usual-granted n ∙ s in (
+      either (eqb (numberOf x) n && granted x)
+          (λ t. let no : 0 ≡ 27 = rw (s, t) at z in absurd (omega arith))
+          (λ t. rw (s, t, number, eq-eqb n n refl, grants, started)),
+      (grants, number),
+    ))
+    (λ s. let no : 15 ≡ 27 = rw s at z in absurd (omega arith))
 
 pub strays-drop-out : StraysDropOut
 unfolding StraysDropOut

@@ -8,6 +8,7 @@ use lib.Dec.{eqb}
 use lib.ListN.{length, getD, replicate}
 use Rattle.laws.specs.Lists.{allOf}
 use Rattle.page.specs.declared.Page.{Page}
+use Rattle.page.specs.declared.PageChoice.{PageChoice}
 use Rattle.page.specs.Page.{noPage}
 use Rattle.page.specs.Settings.{pageValid}
 use Rattle.unpaged.specs.declared.Unpaged.{Unpaged}
@@ -16,7 +17,9 @@ use Rattle.device.specs.Device.{device, supported}
 use Rattle.device.specs.Step.{Call, clocked}
 use Rattle.device.specs.Touches.{touches}
 use Rattle.lent.specs.declared.Outcome.{Outcome}
-use Rattle.loans.specs.Alike.{LentDone, LentReply, LentPowered}
+use Rattle.lent.specs.Lent.{beside}
+use Rattle.lent.specs.PowerOn.{PoweredAs}
+use Rattle.loans.specs.Alike.{LentDone, LentReply, LentPowered, LentPoweredBy}
 
 -- 15 goes exactly to no record or more than ninety-six, to an unpaged part with a value that is not valid, as PAGE beyond the records, and to a
 -- record with one (data sheet 12.2)
@@ -49,3 +52,8 @@ unfoldable pub PowerOnLeaves : Type 0
 PowerOnLeaves =
     (ps : List Page) (o : Outcome) (qs : List Page) → LentPowered ps o qs → supported (length ps) ≡ false
     → (o .answer ≡ 15) × (o .unpaged ≡ powerOnUnpaged) × (qs ≡ ps)
+
+-- Power-on by choices: 15 exactly with no record or more than ninety-six, 27 exactly where there are others than as many choices, or one is not
+-- granted, otherwise 0; and what each answer leaves (crate lent).
+unfoldable pub PowerOnByLeaves : Type 0
+PowerOnByLeaves = (ps : List Page) (cs : List PageChoice) (o : Outcome) (qs : List Page) → LentPoweredBy ps cs o qs → PoweredAs ps cs (beside o qs)

@@ -11,7 +11,8 @@ use Rattle.laws.proofs.Every.{agree, agree-test}
 use Rattle.cause.specs.Causes.{causes, warnings}
 use Rattle.page.specs.Page.{powerOnPage}
 use Rattle.page.specs.Causes.{presentCauses, presentWarnings, crossed, present}
-use Rattle.page.specs.Choice.{PageChoice, chosenPage}
+use Rattle.page.specs.declared.PageChoice.{PageChoice}
+use Rattle.page.specs.Choice.{chosenPage}
 use Rattle.page.specs.Latching.{statusBit}
 use Rattle.page.specs.Status.{supplies}
 use Rattle.page.specs.PowerOn.{PowerOnQuiet}

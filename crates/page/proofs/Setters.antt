@@ -12,6 +12,7 @@ use Rattle.laws.specs.Bits.{bit}
 use Rattle.laws.proofs.Bits.{without-bit}
 use Rattle.laws.proofs.Branches.{either}
 use Rattle.laws.proofs.Lists.{set-cases}
+use Rattle.value.specs.Format.{formatValid}
 use Rattle.retry.specs.Response.{holdsAtOnce, waitsFirst}
 use Rattle.retry.specs.Machines.{allValid}
 use Rattle.retry.proofs.Side.{rested-valid, all-called-valid, all-ticked-valid}
@@ -20,7 +21,7 @@ use Rattle.page.specs.declared.Page.{Page}
 use Rattle.page.specs.Page.{resting, powerOnPage}
 use Rattle.page.specs.Causes.{presentCauses, moved, settled, ticked}
 use Rattle.page.specs.Latching.{statusBit}
-use Rattle.page.specs.Settings.{validOperation, validResponse, pageValid, switchesOff, setOperation, setVoutCommand, setLimit, setResponse, setMeasurement, clearBits}
+use Rattle.page.specs.Settings.{validOperation, validResponse, formatsValid, pageValid, switchesOff, setOperation, setVoutCommand, setLimit, setResponse, setMeasurement, clearBits}
 use Rattle.page.proofs.Written.{valid-response, page-valid}
 
 -- a clearing takes the bits of the masks and does not untrip
@@ -44,18 +45,20 @@ pub record PageParts (p : Page) : Type 0 where
   pub operation : validOperation (p .operation) ≡ true
   pub current : validResponse 1 (getD (p .responses) 1 0) ≡ true
   pub machines : allValid (p .machines) ≡ true
+  pub formats : formatsValid (p .formats) ≡ true
 
 module _ (p : Page) where
   pub page-parts : pageValid p ≡ true → PageParts p
   page-parts v =
       let o = validOperation (p .operation) in
       let r = validResponse 1 (getD (p .responses) 1 0) in
-      let a = and-eq-true-iff (o && r) (allValid (p .machines)) .0 (page-valid p ∙ v) in
+      let e = and-eq-true-iff (o && r && allValid (p .machines)) (formatsValid (p .formats)) .0 (page-valid p ∙ v) in
+      let a = and-eq-true-iff (o && r) (allValid (p .machines)) .0 (e .0) in
       let b = and-eq-true-iff o r .0 (a .0) in
-      record { operation = b .0; current = b .1; machines = a .1 }
+      record { operation = b .0; current = b .1; machines = a .1; formats = e .1 }
 
   pub parts-valid : PageParts p → pageValid p ≡ true
-  parts-valid h = sym (page-valid p) ∙ rw (h .operation, h .current, h .machines)
+  parts-valid h = sym (page-valid p) ∙ rw (h .operation, h .current, h .machines, h .formats)
 
 -- the response to IOUT_OC has action 00 or 11, so that its machine stays at rest
 module _ (x : ℕ) (v : validResponse 1 x ≡ true) where
@@ -82,6 +85,7 @@ module _ (p : Page) where
       (record {
         operation = e;
         current = old .current;
+        formats = old .formats;
         machines = either (switchesOff x) (λ y. rw y resting-valid) (λ n. rw n (old .machines));
       })
     where
@@ -95,6 +99,7 @@ module _ (p : Page) where
       parts-valid (setResponse p n x)
       (record {
         operation = old .operation;
+        formats = old .formats;
         current = set-cases 0 (λ (z : ℕ). validResponse 1 z ≡ true) (p .responses) (n % 6) x 1 (old .current)
             (λ same. let m : 1 ≡ n = omega arith in rw m e);
         machines = rested-valid (p .machines) (old .machines) (n % 6);
@@ -125,6 +130,7 @@ module _ (p : Page) where
       (record {
         operation = old .operation;
         current = old .current;
+        formats = old .formats;
         machines =
             all-called-valid (p .machines) (old .machines) (p .responses) (presentCauses p) (calm _ (old .current)) (slow _ (old .current));
       })
@@ -137,10 +143,11 @@ module _ (p : Page) where
       (record {
         operation = old .operation;
         current = old .current;
+        formats = old .formats;
         machines =
             all-ticked-valid (p .machines) (old .machines) (p .responses) (presentCauses p) (calm _ (old .current)) (slow _ (old .current));
       })
 
 pub powered-valid : pageValid powerOnPage ≡ true
-unfolding pageValid powerOnPage validOperation allValid causes warnings
+unfolding pageValid powerOnPage validOperation allValid formatsValid formatValid causes warnings
 powered-valid = refl

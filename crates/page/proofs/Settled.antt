@@ -221,12 +221,12 @@ module _ (p : Page) (g : UpToDate p) where
 -- ---- a page without measurements
 
 -- it has no present cause and no warning
-quiet : (p : Page) → presentCauses p ≡ false ∷ false ∷ false ∷ false ∷ false ∷ false ∷ [] → presentWarnings p ≡ false ∷ false ∷ false ∷ false ∷ false ∷ []
+pub quiet : (p : Page) → presentCauses p ≡ false ∷ false ∷ false ∷ false ∷ false ∷ false ∷ [] → presentWarnings p ≡ false ∷ false ∷ false ∷ false ∷ false ∷ []
     → (j k : ℕ) → caused p j k ≡ false
 unfolding caused causes warnings
 quiet p e w j k = rw (e, w)
 
-none-caused : (p : Page) → ((j k : ℕ) → caused p j k ≡ false) → (j k : ℕ) → caused p j k ≡ true → statusBit p j k ≡ true
+pub none-caused : (p : Page) → ((j k : ℕ) → caused p j k ≡ false) → (j k : ℕ) → caused p j k ≡ true → statusBit p j k ≡ true
 none-caused p q j k e = absurd (false≢true (sym (q j k) ∙ e))
 
 powered-quiet : (j k : ℕ) → caused powerOnPage j k ≡ false
@@ -237,7 +237,7 @@ none-quiet : (j k : ℕ) → caused noPage j k ≡ false
 unfolding presentCauses presentWarnings crossed causes warnings
 none-quiet = quiet noPage refl refl
 
-powered-steady : (k : ℕ) → k < 6 → Steady (getD (powerOnPage .responses) k 0) (getD (powerOnPage .machines) k 0)
+pub powered-steady : (k : ℕ) → k < 6 → Steady (getD (powerOnPage .responses) k 0) (getD (powerOnPage .machines) k 0)
 unfolding powerOnPage
 powered-steady zero h = steady-rest _
 powered-steady (suc zero) h = steady-rest _

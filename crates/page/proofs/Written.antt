@@ -1,8 +1,8 @@
 -- What the code writes out of the table of causes is what the table gives.
 -- Assumes nothing.
 use Prim.Native.Nat.{ℕ, zero, suc, _/_}
-use mathlib.Core.Path.{_≡_, refl}
-use mathlib.Core.Bool.{Bool, false, not, _&&_, _||_, and-true, and-false, or-false, or-assoc}
+use mathlib.Core.Path.{_≡_, refl, sym}
+use mathlib.Core.Bool.{Bool, true, false, not, _&&_, _||_, and-true, and-false, or-false, or-assoc}
 use mathlib.Core.List.{List}
 use lib.ListN.{getD}
 use lib.Dec.{eqb}
@@ -12,7 +12,7 @@ use Rattle.retry.specs.Machines.{allValid}
 use Rattle.cause.specs.Causes.{causes, warnings, responseOf, voltage}
 use Rattle.page.specs.declared.Page.{Page}
 use Rattle.page.specs.Causes.{offWhileLasts, tripsAtOnce}
-use Rattle.page.specs.Settings.{validOperation, validResponse, pageValid}
+use Rattle.page.specs.Settings.{validOperation, validResponse, formatsValid, pageValid}
 
 -- cause n is present and its response has action 11
 abbrev lasting : List Bool → List ℕ → ℕ → Bool
@@ -42,6 +42,12 @@ valid-response zero x = refl
 valid-response (suc zero) x = refl
 valid-response (suc (suc k)) x = rw (voltages k, ne-eqb (suc (suc k)) 1 (λ e. omega arith))
 
-pub page-valid : (p : Page) → (validOperation (p .operation) && validResponse 1 (getD (p .responses) 1 0) && allValid (p .machines)) ≡ pageValid p
+pub page-valid : (p : Page) → (validOperation (p .operation) && validResponse 1 (getD (p .responses) 1 0) && allValid (p .machines) && formatsValid (p .formats)) ≡ pageValid p
 unfolding pageValid validResponse causes warnings
 page-valid p = simp (and-true)
+
+-- a row of three tests
+pub three : (a b c : Bool) → (a && b && c) ≡ (a && (b && (c && true)))
+three true true c = sym (and-true c)
+three true false c = refl
+three false b c = refl

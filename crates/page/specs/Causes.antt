@@ -9,16 +9,18 @@ use lib.Bits.{bitOr}
 use Rattle.laws.specs.Lists.{anyOf}
 use Rattle.linear11.specs.declared.Order.{Order}
 use Rattle.linear11.specs.declared.Order.the-variants.{Below, Equal, Above}
-use Rattle.linear11.specs.Linear11.{linearOrder, wordOrder}
+use Rattle.linear11.specs.Linear11.{wordOrder}
+use Rattle.value.specs.declared.format.Format.{Format}
+use Rattle.value.specs.Format.{formatOrder}
 use Rattle.retry.specs.Machines.{allAtCall, allAtTick, anyTrips, anyTripsNow}
 use Rattle.cause.specs.Causes.{Side, above, below, VOUT, Limit, causes, faults, warnings, limits, tripsAt, lastsAt, register}
 use Rattle.page.specs.declared.Page.{Page}
 use Rattle.page.specs.declared.causes.Update.{Update}
-use Rattle.page.specs.Page.{withMachines, withStatus, withTripped}
+use Rattle.page.specs.Page.{formatIn, withMachines, withStatus, withTripped}
 
--- how a word stands to a limit of that quantity (data sheet 5.2, 5.5): VOUT's as plain numbers, the others by their values
-unfoldable pub orderBy : ℕ → ℕ → ℕ → Order
-orderBy quantity word limit = cond (eqb quantity VOUT) (wordOrder word limit) (linearOrder word limit)
+-- how a word stands to a limit of that quantity (data sheet 5.2, 5.5): VOUT's as plain numbers, the others by their values in the quantity's format
+unfoldable pub orderBy : List Format → ℕ → ℕ → ℕ → Order
+orderBy fs quantity word limit = cond (eqb quantity VOUT) (wordOrder word limit) (formatOrder (formatIn fs quantity) word limit)
 
 -- the order is that of the side; equal is on neither
 unfoldable pub onSide : Side → Order → Bool
@@ -33,7 +35,7 @@ onSide below Above = false
 unfoldable pub crossed : Page → Limit → Bool
 crossed p l =
     getD (p .measured) (l .quantity) false
-    && onSide (l .side) (orderBy (l .quantity) (getD (p .words) (l .quantity) 0) (getD (p .limits) (l .number) 0))
+    && onSide (l .side) (orderBy (p .formats) (l .quantity) (getD (p .words) (l .quantity) 0) (getD (p .limits) (l .number) 0))
 
 -- the causes in the order of their numbers, each present or not
 unfoldable pub presentCauses : Page → List Bool

@@ -1,9 +1,13 @@
 -- A page as power-on leaves it, and a page with one group of fields changed.
 -- Assumes nothing.
-use Prim.Native.Nat.{ℕ}
-use mathlib.Core.Bool.{Bool, false}
+use Prim.Native.Nat.{ℕ, _-_}
+use mathlib.Core.Bool.{Bool, false, _&&_}
 use mathlib.Core.List.{List, [], _∷_, map}
-use Rattle.cause.specs.Causes.{powerOnLimits, startsWith, responses}
+use lib.ListN.{getD}
+use lib.Dec.{ltb}
+use Rattle.value.specs.declared.format.Format.{Format}
+use Rattle.value.specs.Format.{linearFormat}
+use Rattle.cause.specs.Causes.{VOUT, powerOnLimits, startsWith, responses}
 use Rattle.page.specs.declared.Page.{Page}
 
 -- the machines of a page, none of them under way
@@ -11,7 +15,7 @@ abbrev pub resting : List ℕ
 resting = 0 ∷ 0 ∷ 0 ∷ 0 ∷ 0 ∷ 0 ∷ []
 
 -- Data sheet 1.4 and 3.1: the output off, the limits and responses as the table of causes and warnings has them, nothing measured, no bit set, not
--- tripped.
+-- tripped, every quantity in Linear11.
 unfoldable pub powerOnPage : Page
 powerOnPage = record {
   operation = 0x00;
@@ -23,11 +27,31 @@ powerOnPage = record {
   measured = false ∷ false ∷ false ∷ false ∷ [];
   status = 0 ∷ 0 ∷ 0 ∷ 0 ∷ [];
   tripped = false;
+  formats = linearFormat ∷ linearFormat ∷ linearFormat ∷ [];
 }
+
+-- the format of a quantity from IOUT on, by its number
+abbrev pub formatIn : List Format → ℕ → Format
+formatIn fs q = getD fs (q - 1) linearFormat
+
+-- a quantity is in DIRECT form: VOUT never is, and a number past the quantities neither
+abbrev pub isDirect : List Format → ℕ → Bool
+isDirect fs q = ltb VOUT q && ltb q 4 && formatIn fs q .direct
 
 -- what stands past the end of a list of pages
 abbrev pub noPage : Page
-noPage = record { operation = 0; command = 0; limits = []; responses = []; machines = []; words = []; measured = []; status = []; tripped = false }
+noPage = record {
+  operation = 0;
+  command = 0;
+  limits = [];
+  responses = [];
+  machines = [];
+  words = [];
+  measured = [];
+  status = [];
+  tripped = false;
+  formats = [];
+}
 
 abbrev pub withOperation : Page → ℕ → Page
 withOperation p x = record {
@@ -40,6 +64,7 @@ withOperation p x = record {
   measured = p .measured;
   status = p .status;
   tripped = p .tripped;
+  formats = p .formats;
 }
 
 abbrev pub withCommand : Page → ℕ → Page
@@ -53,6 +78,7 @@ withCommand p w = record {
   measured = p .measured;
   status = p .status;
   tripped = p .tripped;
+  formats = p .formats;
 }
 
 abbrev pub withLimits : Page → List ℕ → Page
@@ -66,6 +92,7 @@ withLimits p l = record {
   measured = p .measured;
   status = p .status;
   tripped = p .tripped;
+  formats = p .formats;
 }
 
 abbrev pub withResponses : Page → List ℕ → Page
@@ -79,6 +106,7 @@ withResponses p l = record {
   measured = p .measured;
   status = p .status;
   tripped = p .tripped;
+  formats = p .formats;
 }
 
 abbrev pub withMachines : Page → List ℕ → Page
@@ -92,6 +120,7 @@ withMachines p l = record {
   measured = p .measured;
   status = p .status;
   tripped = p .tripped;
+  formats = p .formats;
 }
 
 abbrev pub withWords : Page → List ℕ → List Bool → Page
@@ -105,6 +134,7 @@ withWords p l m = record {
   measured = m;
   status = p .status;
   tripped = p .tripped;
+  formats = p .formats;
 }
 
 abbrev pub withStatus : Page → List ℕ → Page
@@ -118,6 +148,7 @@ withStatus p l = record {
   measured = p .measured;
   status = l;
   tripped = p .tripped;
+  formats = p .formats;
 }
 
 abbrev pub withTripped : Page → Bool → Page
@@ -131,4 +162,19 @@ withTripped p b = record {
   measured = p .measured;
   status = p .status;
   tripped = b;
+  formats = p .formats;
+}
+
+abbrev pub withFormats : Page → List Format → Page
+withFormats p l = record {
+  operation = p .operation;
+  command = p .command;
+  limits = p .limits;
+  responses = p .responses;
+  machines = p .machines;
+  words = p .words;
+  measured = p .measured;
+  status = p .status;
+  tripped = p .tripped;
+  formats = l;
 }

@@ -5,8 +5,9 @@ use mathlib.Core.Path.{_≡_}
 use mathlib.Core.Bool.{false}
 use lib.ListN.{getD}
 use Rattle.page.specs.declared.Page.{Page}
+use Rattle.page.specs.declared.PageChoice.{PageChoice}
 use Rattle.page.specs.Causes.{present}
-use Rattle.page.specs.Choice.{PageChoice, chosenPage}
+use Rattle.page.specs.Choice.{chosenPage}
 use Rattle.page.specs.Latching.{statusBit}
 use Rattle.page.specs.Status.{supplies, reading}
 

@@ -8,9 +8,11 @@ use lib.Dec.{eqb}
 use Rattle.laws.specs.Bits.{without}
 use Rattle.laws.specs.Lists.{allOf}
 use Rattle.retry.specs.Machines.{allValid}
-use Rattle.cause.specs.Causes.{causes, responseOf, validAt}
+use Rattle.value.specs.declared.format.Format.{Format}
+use Rattle.value.specs.Format.{formatValid}
+use Rattle.cause.specs.Causes.{IOUT, VIN, TEMPERATURE, causes, responseOf, validAt}
 use Rattle.page.specs.declared.Page.{Page}
-use Rattle.page.specs.Page.{resting, withOperation, withCommand, withLimits, withResponses, withMachines, withWords, withStatus, withTripped}
+use Rattle.page.specs.Page.{formatIn, resting, withOperation, withCommand, withLimits, withResponses, withMachines, withWords, withStatus, withTripped}
 
 -- off, off, on (data sheet 3.5)
 unfoldable pub validOperation : ℕ → Bool
@@ -20,12 +22,18 @@ validOperation x = eqb x 0x00 || eqb x 0x40 || eqb x 0x80
 unfoldable pub validResponse : ℕ → ℕ → Bool
 validResponse k x = validAt (responseOf k .actions) x
 
--- OPERATION and every response hold valid data, and every machine a value that runs give it; the other fields may hold anything (data sheet 12.2)
+-- under each DIRECT mark the coefficients are valid
+unfoldable pub formatsValid : List Format → Bool
+formatsValid fs = allOf (λ q. formatValid (formatIn fs q)) (IOUT ∷ VIN ∷ TEMPERATURE ∷ [])
+
+-- OPERATION and every response hold valid data, every machine a value that runs give it, and every DIRECT format valid coefficients; the other
+-- fields may hold anything (data sheet 12.2)
 unfoldable pub pageValid : Page → Bool
 pageValid p =
     validOperation (p .operation)
     && allOf (λ c. validAt (c .response .actions) (getD (p .responses) (c .limit .number) 0)) causes
     && allValid (p .machines)
+    && formatsValid (p .formats)
 
 -- the values of OPERATION that switch off at once
 abbrev pub switchesOff : ℕ → Bool

@@ -3,11 +3,12 @@
 -- Assumes nothing.
 use Prim.Native.Nat.{ℕ}
 use mathlib.Core.Path.{_≡_}
-use mathlib.Core.Bool.{Bool, _||_}
+use mathlib.Core.Bool.{Bool, false, not, _&&_, _||_}
 use mathlib.Core.List.{List, [], _∷_}
-use lib.Dec.{eqb, leb}
+use lib.Dec.{eqb, ltb, leb}
 use lib.ListN.{getD}
 use Rattle.laws.specs.Lists.{allOf}
+use Rattle.value.specs.declared.format.Format.{Format}
 use Rattle.page.specs.declared.Page.{Page}
 use Rattle.page.specs.Settings.{pageValid}
 
@@ -17,6 +18,13 @@ responseTo p n = getD (p .responses) n 0
 
 abbrev pub machineOf : Page → ℕ → ℕ
 machineOf p n = getD (p .machines) n 0
+
+-- the format of IOUT, VIN or temperature, by its place; under a DIRECT mark m is not 0, and R is 0 to 6 or, in two's complement, -6 to -1
+abbrev pub formatAt : Page → ℕ → Format
+formatAt p n = getD (p .formats) n (record { direct = false; m = 0; b = 0; r = 0 })
+
+abbrev pub coefficientsHold : Format → Bool
+coefficientsHold f = not (f .direct) || (not (eqb (f .m) 0) && (ltb (f .r) 7 || ltb 0xF9 (f .r)))
 
 -- what has to hold, a line for each field; the responses to the other five causes may be any byte
 abbrev pub pageTests : Page → List Bool
@@ -29,6 +37,9 @@ pageTests p =
     ∷ leb (machineOf p 3) 64  -- of UT
     ∷ leb (machineOf p 4) 64  -- of VIN_OV
     ∷ leb (machineOf p 5) 64  -- of VIN_UV
+    ∷ coefficientsHold (formatAt p 0)  -- the format of IOUT
+    ∷ coefficientsHold (formatAt p 1)  -- of VIN
+    ∷ coefficientsHold (formatAt p 2)  -- of temperature
     ∷ []
 
 -- all of a list of tests hold
@@ -40,6 +51,7 @@ pub record SameTested (p q : Page) : Type 0 where
   pub operation : p .operation ≡ q .operation
   pub current : responseTo p 1 ≡ responseTo q 1
   pub machines : p .machines ≡ q .machines
+  pub formats : p .formats ≡ q .formats
 
 -- a page is valid exactly where all of them hold, and no other field is looked at
 pub record ByField : Type 0 where

@@ -1,20 +1,22 @@
 // Which causes and warnings are present, and what they leave: latched status bits, and the trip. Their table is written out here, for speed.
 ghost use mathlib.Core.Path.{_≡_};
 ghost use mathlib.Core.Bool.{_&&_};
-ghost use Rattle.linear11.specs.Linear11.{linearOrder, wordOrder};
+ghost use Rattle.linear11.specs.Linear11.{wordOrder};
+ghost use Rattle.value.specs.Format.{formatOrder};
 ghost use Rattle.cause.specs.Causes.{above, below};
 ghost use Rattle.page.specs.Causes.{onSide, presentCauses, presentWarnings, presentLimits, weigh, raised, tripsAtOnce, offWhileLasts, moved, settled, updateOf, ticked};
 use super::Page;
 use linear11::Order;
+use value::format::Format;
 
 // The measured word's value is strictly above the limit's. Early returns, here and below: without them the comparisons become slow vector code.
-fn above(measured: bool, word: u16, limit: u16) -> bool
-    ensures { λ r. ⌜ r ≡ (measured && onSide above (linearOrder word limit)) ⌝ }
+fn above(f: Format, measured: bool, word: u16, limit: u16) -> bool
+    ensures { λ r. ⌜ r ≡ (measured && onSide above (formatOrder f word limit)) ⌝ }
 {
     if !measured {
         return false;
     }
-    let order = linear11::compare_linear11(word, limit);
+    let order = value::format::compare_words(f, word, limit);
     match order {
         Order::Below => false,
         Order::Equal => false, // at its limit
@@ -23,13 +25,13 @@ fn above(measured: bool, word: u16, limit: u16) -> bool
 }
 
 // The measured word's value is strictly below the limit's.
-fn below(measured: bool, word: u16, limit: u16) -> bool
-    ensures { λ r. ⌜ r ≡ (measured && onSide below (linearOrder word limit)) ⌝ }
+fn below(f: Format, measured: bool, word: u16, limit: u16) -> bool
+    ensures { λ r. ⌜ r ≡ (measured && onSide below (formatOrder f word limit)) ⌝ }
 {
     if !measured {
         return false;
     }
-    let order = linear11::compare_linear11(word, limit);
+    let order = value::format::compare_words(f, word, limit);
     match order {
         Order::Below => true,
         Order::Equal => false, // not below it
@@ -56,13 +58,16 @@ fn above_unsigned(measured: bool, word: u16, limit: u16) -> bool
 pub fn present_causes(p: Page) -> [bool; 6]
     ensures { λ r. ⌜ r ≡ presentCauses p ⌝ }
 {
+    let iout = p.formats[0];
+    let input = p.formats[1];
+    let temperature = p.formats[2];
     [
         above_unsigned(p.measured[0], p.words[0], p.limits[0]),
-        above(p.measured[1], p.words[1], p.limits[1]),
-        above(p.measured[3], p.words[3], p.limits[2]),
-        below(p.measured[3], p.words[3], p.limits[3]),
-        above(p.measured[2], p.words[2], p.limits[4]),
-        below(p.measured[2], p.words[2], p.limits[5]),
+        above(iout, p.measured[1], p.words[1], p.limits[1]),
+        above(temperature, p.measured[3], p.words[3], p.limits[2]),
+        below(temperature, p.measured[3], p.words[3], p.limits[3]),
+        above(input, p.measured[2], p.words[2], p.limits[4]),
+        below(input, p.measured[2], p.words[2], p.limits[5]),
     ]
 }
 
@@ -70,12 +75,15 @@ pub fn present_causes(p: Page) -> [bool; 6]
 fn present_warnings(p: Page) -> [bool; 5]
     ensures { λ r. ⌜ r ≡ presentWarnings p ⌝ }
 {
+    let iout = p.formats[0];
+    let input = p.formats[1];
+    let temperature = p.formats[2];
     [
         above_unsigned(p.measured[0], p.words[0], p.limits[6]),
-        above(p.measured[1], p.words[1], p.limits[7]),
-        above(p.measured[3], p.words[3], p.limits[8]),
-        above(p.measured[2], p.words[2], p.limits[9]),
-        below(p.measured[2], p.words[2], p.limits[10]),
+        above(iout, p.measured[1], p.words[1], p.limits[7]),
+        above(temperature, p.measured[3], p.words[3], p.limits[8]),
+        above(input, p.measured[2], p.words[2], p.limits[9]),
+        below(input, p.measured[2], p.words[2], p.limits[10]),
     ]
 }
 

@@ -2,8 +2,9 @@
 ghost use mathlib.Core.Path.{_≡_};
 ghost use mathlib.Core.Bool.{cond};
 ghost use Rattle.page.specs.Page.{resting};
-ghost use Rattle.page.specs.Settings.{validOperation, validResponse, pageValid, setOperation, setVoutCommand, setLimit, setResponse, setMeasurement, clearBits};
+ghost use Rattle.page.specs.Settings.{validOperation, validResponse, formatsValid, pageValid, setOperation, setVoutCommand, setLimit, setResponse, setMeasurement, clearBits};
 use super::Page;
+use value::format::Format;
 
 pub fn valid_operation(x: u8) -> bool
     ensures { λ r. ⌜ r ≡ validOperation x ⌝ }
@@ -18,14 +19,29 @@ pub fn valid_response(k: u8, x: u8) -> bool
     (k != 1) | (x == 0) | (x == 0xC0)
 }
 
-// A page that no answer 15 goes to: OPERATION and every response are valid data, and every machine is in a state that runs reach.
+// Under each DIRECT mark the coefficients are valid.
+pub fn formats_valid(formats: [Format; 3]) -> bool
+    ensures { λ r. ⌜ r ≡ formatsValid formats ⌝ }
+{
+    let iout = formats[0];
+    let input = formats[1];
+    let temperature = formats[2];
+    value::format::format_valid(iout)
+        & value::format::format_valid(input)
+        & value::format::format_valid(temperature)
+}
+
+// A page that no answer 15 goes to: OPERATION and every response are valid data, every machine is in a state that runs reach, and every DIRECT
+// format has valid coefficients.
 pub fn page_valid(p: Page) -> bool
     ensures { λ r. ⌜ r ≡ pageValid p ⌝ }
 {
     let machines = p.machines;
+    let formats = p.formats;
     valid_operation(p.operation)
         & valid_response(1, p.responses[1])
         & retry::machines::all_valid(machines)
+        & formats_valid(formats)
 }
 
 // The machines, or all of them at rest.

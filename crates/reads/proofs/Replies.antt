@@ -2,31 +2,35 @@
 -- Assumes nothing.
 use Prim.Native.Nat.{ℕ, zero, suc, _+_, _-_, _≤_, _<_}
 use mathlib.Core.Path.{_≡_, refl, sym, ap, _∙_}
-use mathlib.Core.Bool.{Bool, true, false, _||_, or-false}
+use mathlib.Core.Bool.{Bool, true, false, not, _&&_, _||_}
+use mathlib.Core.Logic.{_⊎_, inl, inr, ⊎-elim}
 use mathlib.Core.List.{List, [], _∷_, _++_, append-assoc}
 use native.Mathlib.Nat.{le-refl, le-of-suc-le-suc}
 use native.Mathlib.Omega.{arith}
-use lib.ListN.{length, take, replicate, length-take, length-append, length-replicate}
+use lib.ListN.{length, getD, take, replicate, length-take, length-append, length-replicate}
 use lib.Dec.{eqb, ltb}
 use borrow.Author.Tests.{ltb-true}
 use lib.Seq.{take-append-le, take-append-add, take-all}
-use Rattle.laws.specs.Lists.{Bytes}
-use Rattle.laws.proofs.Every.{agree}
-use Rattle.laws.proofs.Lists.{byte-lt}
-use Rattle.pec.specs.Pec.{pec}
+use Rattle.laws.proofs.Branches.{either}
+use Rattle.laws.proofs.Every.{agree, agree-test}
+use Rattle.cause.specs.Causes.{limitOf, readCodes}
 use Rattle.command.specs.Table.{table, lookup, entryOf}
 use Rattle.command.specs.Meaning.{commandOf, settingOf, faultOf, readingOf}
+use Rattle.command.specs.Paged.{paged}
+use Rattle.command.specs.Quantity.{carried, quantityOf}
 use Rattle.command.specs.Agreement.{rowOf}
+use Rattle.command.specs.Causes.{CausesAgree}
+use Rattle.command.proofs.Causes.{causes-agree}
 use Rattle.page.specs.declared.Page.{Page}
+use Rattle.page.specs.Page.{formatIn}
 use Rattle.unpaged.specs.declared.Unpaged.{Unpaged}
-use Rattle.reads.specs.Answers.{readAnswer, answersData}
-use Rattle.reads.specs.Request.{requestOf}
+use Rattle.unpaged.specs.Unpaged.{everyPage}
+use Rattle.reads.specs.Request.{plainOf, coefficientsOf, processOf, addressedOf, requestOf}
+use Rattle.reads.specs.Coefficients.{hasCoefficients, coefficientBytes}
+use Rattle.reads.specs.Answers.{dataAnswer, requestAnswer, readAnswer, answersData}
 use Rattle.reads.specs.Data.{readData, requestData, checked, readStream}
 use Rattle.reads.specs.Reply.{replyOf}
-use Rattle.unpaged.proofs.Applies.{given-applies}
-use Rattle.reads.specs.Applies.{code, due, readLines, AnswersApply}
-use Rattle.reads.specs.Replies.{checkOf, Reply, RepliesFollow}
-use Rattle.reads.proofs.Applies.{answers-apply}
+use Rattle.reads.specs.Replies.{checkOf, plainHeader, coefficientsHeader, Reply, replyTo, RepliesFollow}
 use Rattle.reads.proofs.Lengths.{data-length}
 use Rattle.reads.proofs.Requests.{sends}
 
@@ -76,63 +80,87 @@ none-sent false false true h = h
 none-sent false true z h = h
 none-sent true y z h = h
 
--- the table's number of data bytes, by computation at each code
-data-due : (u : Unpaged) (p : Page) (c : ℕ) → c < 256 → length (readData u p (commandOf c)) ≡ lookup c .length
-unfolding lookup entryOf table rowOf commandOf settingOf faultOf readingOf
-data-due u p c h =
-    data-length u p (commandOf c) .0 ∙ sym (agree (λ c. lookup c .length) (λ c. rowOf 0 (commandOf c) .2) 256 tt c h)
+some-sent : (x y z : Bool) → (x || (y || (z || false))) ≡ true → (x || y || z) ≡ true
+some-sent true y z h = refl
+some-sent false true z h = refl
+some-sent false false true h = refl
+some-sent false false false h = h
 
-module _ (u : Unpaged) (p : Page) (header : List ℕ) (n : ℕ) (byte : Bytes header) where
+-- the table's number of data bytes, by computation at each code
+pub data-due : (u : Unpaged) (p : Page) (c : ℕ) → c < 256 → lookup c .read ≡ true → length (readData u p (commandOf c)) ≡ lookup c .length
+unfolding lookup entryOf table rowOf commandOf settingOf faultOf readingOf
+data-due u p c h r =
+    data-length u p (commandOf c) .0
+    (sym (agree-test (λ c. lookup c .read) (λ c. entryOf (rowOf 0 (commandOf c)) .read) 256 tt c h) ∙ r)
+    ∙ sym (agree (λ c. lookup c .length) (λ c. rowOf 0 (commandOf c) .2) 256 tt c h)
+
+-- the answers 10 and 11 of a request with k data bytes
+module _ (refused : Bool) (k n : ℕ) where
+  below : dataAnswer refused k n ≡ 10 → n < k
+  unfolding dataAnswer
+  below e =
+      either refused (λ y. absurd (omega (arith, rw y at e)))
+      (λ z. either (ltb n k) (λ y. ltb-true n k y)
+      (λ w. either (ltb (k + 1) n) (λ y. absurd (omega (arith, rw (z, w, y) at e))) (λ v. absurd (omega (arith, rw (z, w, v) at e)))))
+
+  above : dataAnswer refused k n ≡ 11 → k + 1 < n
+  unfolding dataAnswer
+  above e =
+      either refused (λ y. absurd (omega (arith, rw y at e)))
+      (λ z. either (ltb n k) (λ y. absurd (omega (arith, rw (z, y) at e)))
+      (λ w. either (ltb (k + 1) n) (λ y. ltb-true (k + 1) n y) (λ v. absurd (omega (arith, rw (z, w, v) at e)))))
+
+-- a header whose request has these k data bytes
+module _ (u : Unpaged) (p : Page) (header : List ℕ) (n k : ℕ) (bytes : List ℕ) (refused : Bool) (long : length bytes ≡ k) (given : requestData u p (requestOf header) ≡ bytes) (answers : readAnswer u p header n ≡ dataAnswer refused k n) where
   abbrev answer : ℕ
   answer = readAnswer u p header n
 
-  abbrev bytes : List ℕ
-  bytes = readData u p (commandOf (code header))
+  -- what is sent, where data are, and so what is read of it
+  data-sent : answersData answer ≡ true → readStream u p answer (requestOf header) header ≡ bytes ++ (checkOf header bytes ∷ [])
+  unfolding readStream checked
+  data-sent y = rw (y, given)
 
-  abbrev sent : List ℕ
-  sent = readStream u p answer (requestOf header) header
+  of-data : (a : ℕ) → answer ≡ a → answersData a ≡ true → replyTo u p header n ≡ replyOf (bytes ++ (checkOf header bytes ∷ [])) n
+  of-data a e y = ap (λ (s : List ℕ). replyOf s n) (data-sent (ap answersData e ∙ y))
 
-  -- a number that is given applies
-  below : answer ≡ 10 → n < due header
-  unfolding AnswersApply
-  below e =
-      ltb-true n (due header)
-      (sym (or-false (ltb n (due header))) ∙ given-applies (readLines u header n) 10 (omega arith) (sym (answers-apply u p header n) ∙ e))
-
-  above : answer ≡ 11 → due header + 1 < n
-  unfolding AnswersApply
-  above e =
-      ltb-true (due header + 1) n
-      (sym (or-false (ltb (due header + 1) n)) ∙ given-applies (readLines u header n) 11 (omega arith) (sym (answers-apply u p header n) ∙ e))
-
-  -- what is sent, where data are: the check over the header as it came is that over C0h, code, C1h
-  data-sent : answersData answer ≡ true → sent ≡ bytes ++ (checkOf (code header) bytes ∷ [])
-  unfolding readStream checked requestData
-  data-sent y =
-      let s = sends u p header n y in
-      rw (y, s .asks) (ap (λ (h : List ℕ). bytes ++ (pec (h ++ bytes) ∷ [])) (s .spelled))
-
-  -- and so what is read of it
-  of-data : (k : ℕ) → answer ≡ k → answersData k ≡ true → replyOf sent n ≡ replyOf (bytes ++ (checkOf (code header) bytes ∷ [])) n
-  of-data k e y = ap (λ (s : List ℕ). replyOf s n) (data-sent (ap answersData e ∙ y))
-
-  replies : Reply answer (code header) (due header) n bytes (replyOf sent n)
+  replies : Reply answer k n header bytes (replyTo u p header n)
   unfolding readStream answersData
   replies =
-      let as-due = data-due u p (code header) (byte-lt header byte 1) in
-      let check = checkOf (code header) bytes in
+      let check = checkOf header bytes in
       record {
-        clocked = reply-length sent n;
-        as-table = as-due;
+        clocked = reply-length (readStream u p answer (requestOf header) header) n;
+        as-due = long;
         plain = λ e m. of-data 0 e refl ∙ first bytes check n (omega arith) ∙ take-all n bytes (omega arith);
         checked = λ e m. of-data 0 e refl ∙ whole bytes check n (omega arith);
-        short = λ e. of-data 10 e refl ∙ (let h = below e in first bytes check n (omega arith));
+        short = λ e. of-data 10 e refl ∙ (let h = below refused k n (sym answers ∙ e) in first bytes check n (omega arith));
         long = λ e.
-            let h = above e in
-            of-data 11 e refl ∙ all bytes check n (omega arith) ∙ ap (λ (k : ℕ). bytes ++ (check ∷ replicate (n - (k + 1)) 255)) as-due;
+            let h = above refused k n (sym answers ∙ e) in
+            of-data 11 e refl ∙ all bytes check n (omega arith) ∙ ap (λ (m : ℕ). bytes ++ (check ∷ replicate (n - (m + 1)) 255)) long;
         nothing = λ e. rw (none-sent (eqb answer 0) (eqb answer 10) (eqb answer 11) e) (take-all n (replicate n 255) (rw (length-replicate) (le-refl n)));
       }
 
+-- the coefficients of a code whose quantity is known
+coefficients-reply : (u : Unpaged) (p : Page) (c direction q n : ℕ) → quantityOf c ≡ q
+    → Reply (readAnswer u p (coefficientsHeader c direction) n) 6 n (coefficientsHeader c direction) (coefficientBytes (formatIn (p .formats) q))
+    (replyTo u p (coefficientsHeader c direction) n)
+unfolding readAnswer requestOf addressedOf processOf coefficientsOf requestAnswer requestData coefficientBytes
+coefficients-reply u p c direction q n e =
+    replies u p (coefficientsHeader c direction) n 6 (coefficientBytes (formatIn (p .formats) q))
+    (everyPage u || not (hasCoefficients p c direction)) refl (ap (λ (q : ℕ). coefficientBytes (formatIn (p .formats) q)) e) refl
+
 pub replies-follow : RepliesFollow
-unfolding RepliesFollow
-replies-follow = replies
+unfolding readAnswer requestOf addressedOf plainOf requestAnswer requestData readStream answersData coefficientBytes quantityOf carried CausesAgree
+replies-follow = record {
+  of-code = λ u p c n small r.
+      replies u p (plainHeader c) n (lookup c .length) (readData u p (commandOf c)) (everyPage u && paged c) (data-due u p c small r) (rw r) (rw r);
+  of-limit = λ u p i direction n few.
+      coefficients-reply u p (limitOf i .limitCode) direction (limitOf i .quantity) n (ap carried (causes-agree .0 i few .limit));
+  of-measured = λ u p i direction n few.
+      coefficients-reply u p (getD readCodes (limitOf i .quantity) 0) direction (limitOf i .quantity) n (ap carried (causes-agree .0 i few .reading));
+  no-data = λ u p header n e.
+      let a = readAnswer u p header n in
+      rw (none-sent (eqb a 0) (eqb a 10) (eqb a 11) e) (take-all n (replicate n 255) (rw (length-replicate) (le-refl n)));
+  data-headers = λ u p header n e.
+      let a = readAnswer u p header n in
+      ⊎-elim (λ s. inl (s .spelled, s .readable)) (λ s. inr (s .spelled)) (sends u p header n (some-sent (eqb a 0) (eqb a 10) (eqb a 11) e));
+}

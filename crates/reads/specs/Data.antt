@@ -15,6 +15,7 @@ use Rattle.page.specs.Status.{statusByte, statusHigh, reading}
 use Rattle.unpaged.specs.declared.Unpaged.{Unpaged}
 use Rattle.reads.specs.declared.request.Request.{Request}
 use Rattle.reads.specs.declared.request.Request.the-variants.{Refused, Plain}
+use Rattle.reads.specs.Coefficients.{formatOf, coefficientBytes}
 use Rattle.reads.specs.Answers.{answersData}
 
 -- low byte first (data sheet 2.4)
@@ -25,8 +26,7 @@ wordBytes w = w % 256 ∷ w / 256 ∷ []
 unfoldable pub statusRegister : Page → ℕ → ℕ → ℕ
 statusRegister p cml k = cond (eqb k 4) cml (getD (p .status) (k % 4) 0)
 
--- the data bytes of a command. CAPABILITY, VOUT_MODE and PMBUS_REVISION are constants (data sheet 3.3). The two cases that are not read have
--- none.
+-- the data bytes of a command. CAPABILITY, VOUT_MODE and PMBUS_REVISION are constants (data sheet 3.3). The cases that are not read have none.
 unfoldable pub readData : Unpaged → Page → Command → List ℕ
 readData u p SelectPage = u .page ∷ []
 readData u p Operation = p .operation ∷ []
@@ -44,11 +44,13 @@ readData u p ReadEin = einBytes (u .energy)
 readData u p (Reading q) = wordBytes (reading p q)
 readData u p Revision = 0x22 ∷ []
 readData u p Absent = []
+readData u p Command.Coefficients = []
 
 -- the data of what a read asks for
 unfoldable pub requestData : Unpaged → Page → Request → List ℕ
 requestData u p (Refused a) = []
 requestData u p (Plain code k) = readData u p (commandOf code)
+requestData u p (Request.Coefficients code direction) = coefficientBytes (formatOf p code)
 
 -- the part of a header that the packet check covers: all of it as it came, both address bytes included (data sheet 2.6)
 abbrev pub covered : List ℕ → List ℕ

@@ -1,4 +1,5 @@
 pub mod Request
+pub mod Coefficients
 pub mod Answers
 pub mod Reply
 pub mod Data

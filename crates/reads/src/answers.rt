@@ -1,9 +1,11 @@
 // The answer of a read, from the unpaged part, the page shown, what is asked for and the number of bytes clocked.
 ghost use mathlib.Core.Path.{_≡_};
-ghost use mathlib.Core.Bool.{_&&_};
+ghost use mathlib.Core.Bool.{_&&_, _||_, not};
 ghost use Rattle.command.specs.Paged.{paged};
 ghost use Rattle.unpaged.specs.Unpaged.{everyPage};
+ghost use Rattle.reads.specs.Coefficients.{hasCoefficients};
 ghost use Rattle.reads.specs.Answers.{dataAnswer, requestAnswer, readAnswer, answersData};
+use super::coefficients;
 use super::request;
 use super::request::Request;
 use page::Page;
@@ -34,6 +36,14 @@ fn plain_answer(u: Unpaged, code: u8, due: u8, n: usize) -> u8
     data_answer(everywhere, due, n)
 }
 
+// The coefficients of a code on the page shown. There are none where every page is selected.
+fn coefficients_answer(u: Unpaged, p: Page, code: u8, direction: u8, n: usize) -> u8
+    ensures { λ r. ⌜ r ≡ dataAnswer (everyPage u || not (hasCoefficients p code direction)) 6 n ⌝ }
+{
+    let none = (u.page == 0xFF) | !coefficients::has_coefficients(p, code, direction);
+    data_answer(none, 6, n)
+}
+
 // The answer to a request, on the page shown, with n bytes clocked.
 pub fn request_answer(u: Unpaged, p: Page, request: Request, n: usize) -> u8
     ensures { λ r. ⌜ r ≡ requestAnswer u p request n ⌝ }
@@ -41,6 +51,7 @@ pub fn request_answer(u: Unpaged, p: Page, request: Request, n: usize) -> u8
     match request {
         Request::Refused(answer) => answer,
         Request::Plain(code, due) => plain_answer(u, code, due, n),
+        Request::Coefficients(code, direction) => coefficients_answer(u, p, code, direction, n),
     }
 }
 

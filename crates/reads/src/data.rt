@@ -7,6 +7,7 @@ ghost use Rattle.account.specs.Account.{einBytes};
 ghost use Rattle.pec.specs.Pec.{pec};
 ghost use Rattle.command.specs.Meaning.{commandOf};
 ghost use Rattle.page.specs.Status.{statusByte, statusHigh, reading};
+ghost use Rattle.reads.specs.Coefficients.{formatOf, coefficientBytes};
 ghost use Rattle.reads.specs.Reply.{stream, streamOf};
 ghost use Rattle.reads.specs.Data.{wordBytes, statusRegister, readData, requestData, covered, checked, readStream};
 use super::answers;
@@ -16,6 +17,7 @@ use account::Account;
 use command::Command;
 use page::Page;
 use unpaged::Unpaged;
+use value::format::Format;
 
 // No byte, one byte, a word low byte first, and the energy account's seven bytes.
 fn none() -> Stream
@@ -129,6 +131,7 @@ pub fn read_data(u: Unpaged, p: Page, command: Command) -> Stream
         Command::Reading(quantity) => reading(p, quantity),
         Command::Revision => one(0x22),
         Command::Absent => none(),
+        Command::Coefficients => none(),
     }
 }
 
@@ -139,6 +142,35 @@ fn plain_data(u: Unpaged, p: Page, code: u8) -> Stream
     read_data(u, p, command)
 }
 
+// A count, and the coefficients of a format.
+fn coefficients(f: Format) -> Stream
+    ensures { λ r. ⌜ (r ≡ stream (coefficientBytes f)) × (r .length < 8) ⌝ }
+{
+    Stream {
+        bytes: [
+            5,
+            (f.m % 256) as u8,
+            (f.m / 256) as u8,
+            (f.b % 256) as u8,
+            (f.b / 256) as u8,
+            f.r,
+            0,
+            0,
+        ],
+        length: 6,
+    }
+}
+
+// The coefficients of a code's value on a page.
+fn format_data(p: Page, code: u8) -> Stream
+    ensures { λ r. ⌜ (r ≡ stream (coefficientBytes (formatOf p code))) × (r .length < 8) ⌝ }
+{
+    let formats = p.formats;
+    let quantity = command::quantity::quantity_of(code);
+    let f = page::formats::format_of(formats, quantity);
+    coefficients(f)
+}
+
 // The data of what is asked for.
 fn request_data(u: Unpaged, p: Page, request: Request) -> Stream
     ensures { λ r. ⌜ (r ≡ stream (requestData u p request)) × (r .length < 8) ⌝ }
@@ -146,6 +178,7 @@ fn request_data(u: Unpaged, p: Page, request: Request) -> Stream
     match request {
         Request::Refused(_) => none(),
         Request::Plain(code, _) => plain_data(u, p, code),
+        Request::Coefficients(code, _) => format_data(p, code),
     }
 }
 

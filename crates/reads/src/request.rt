@@ -2,7 +2,7 @@
 ghost use mathlib.Core.Path.{_≡_};
 ghost use lib.ListN.{getD};
 ghost use Rattle.command.specs.Table.{lookup};
-ghost use Rattle.reads.specs.Request.{plainOf, addressedOf, requestOf};
+ghost use Rattle.reads.specs.Request.{plainOf, coefficientsOf, processOf, addressedOf, requestOf};
 use command::Entry;
 use writes::bytes::byte_at;
 
@@ -12,6 +12,8 @@ pub enum Request {
     Refused(u8),
     // a code that is read, and the number of its data bytes
     Plain(u8, u8),
+    // the coefficients of a code, in a direction
+    Coefficients(u8, u8),
 }
 
 // The address byte that a transaction starts with, and the one behind a repeated START.
@@ -42,6 +44,32 @@ fn code_of(code: u8) -> Request
     plain_of(e, code)
 }
 
+// COEFFICIENTS: a count of two, a code, a direction and the read address.
+fn coefficients_of(header: &[u8]) -> Request
+    ensures { λ r. ⌜ r ≡ coefficientsOf (now (header .entry)) ⌝ }
+{
+    if header.len() != 6 {
+        return malformed();
+    }
+    if header[2] != 2 {
+        return malformed();
+    }
+    if header[5] != READ_ADDRESS {
+        return malformed();
+    }
+    Request::Coefficients(header[3], header[4])
+}
+
+// A header with this code that has not three bytes.
+fn process_of(header: &[u8], code: u8) -> Request
+    ensures { λ r. ⌜ r ≡ processOf (now (header .entry)) code ⌝ }
+{
+    if code == 0x30 {
+        return coefficients_of(header);
+    }
+    malformed()
+}
+
 // A header with this code, addressed to the device.
 fn addressed_of(header: &[u8], code: u8) -> Request
     ensures { λ r. ⌜ r ≡ addressedOf (now (header .entry)) code ⌝ }
@@ -52,7 +80,7 @@ fn addressed_of(header: &[u8], code: u8) -> Request
         }
         return code_of(code);
     }
-    malformed()
+    process_of(header, code)
 }
 
 fn with_code(header: &[u8]) -> Request
@@ -62,7 +90,7 @@ fn with_code(header: &[u8]) -> Request
     addressed_of(header, code)
 }
 
-// The header is the write address, a code and the read address.
+// The header is the write address, a code and the read address, or that of a process call.
 pub fn request_of(header: &[u8]) -> Request
     ensures { λ r. ⌜ r ≡ requestOf (now (header .entry)) ⌝ }
 {

@@ -90,7 +90,7 @@ lasting (k ∷ ks) z = fsep ftrue (lasting ks (z .1))
 abbrev pub Told : (j : Kind) → (j .row .Denot → Type 0) → j .row .Denot → Val → Type 0
 Told j Φ r w = (w ≡ only (j .spell r)) × (Is (j .row) r (j .spell r) × Φ r)
 
-told : (j : Kind) (Φ : j .row .Denot → Type 0) (r : j .row .Denot) (w : Val) → Is (j .row) r (w ∷ []) → Φ r → Told j Φ r w
+pub told : (j : Kind) (Φ : j .row .Denot → Type 0) (r : j .row .Denot) (w : Val) → Is (j .row) r (w ∷ []) → Φ r → Told j Φ r w
 told j Φ r w is e = (ap only (j .tells r (w ∷ []) is), (subst (Is (j .row) r) (j .tells r (w ∷ []) is) is, e))
 
 module _ {M : Type 1} (𝓤 : URA M) (H : Heap 𝓤) (A : Atoms 𝓤) (W : Given 𝓤 H A) (ks : List Kind) (a : Denots (rows ks)) (are : Good ks a) where

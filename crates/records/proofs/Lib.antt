@@ -6,3 +6,6 @@ pub mod Calls
 pub mod Paged
 pub mod Found
 pub mod Bounded
+pub mod Chosen
+pub mod Both
+pub mod Choices

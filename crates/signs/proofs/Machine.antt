@@ -2,15 +2,16 @@
 -- Assumes nothing.
 use mathlib.Core.Path.{_≡_, refl}
 use mathlib.Core.Bool.{Bool, true, false}
-use Prim.Native.Nat.{ℕ, zero, suc, _*_, _<_}
+use Prim.Native.Nat.{ℕ, zero, suc, _+_, _*_, _≤_, _<_}
 use native.Mathlib.Omega.{arith}
-use lib.Dec.{T}
-use lib.IntN.{ℤ, pos, negsuc, negℤ, natAbs, _-ℤ_, _*ℤ_, +ℤ-idl}
+use lib.Dec.{T, ltb}
+use lib.IntN.{ℤ, pos, negsuc, negℤ, natAbs, _+ℤ_, _-ℤ_, _*ℤ_, +ℤ-idl}
 use lib.Signed.{ltZ, nonNeg}
 use borrow.Author.Tests.{ltb-true}
 use mir.Syntax.{w64}
 use mir.Val.{toZ, ofZ, SFits}
 use mir.ValLaws.{toZ-ofZ}
+use Rattle.laws.proofs.Branches.{either}
 
 pub fits-size : (z : ℤ) → natAbs z < 9223372036854775808 → SFits w64 z
 fits-size (pos n) h = record { sfits = h }
@@ -31,6 +32,18 @@ abs-times (pos a) (pos b) = refl
 abs-times (pos a) (negsuc b) = abs-neg (pos (a * suc b))
 abs-times (negsuc a) (pos b) = abs-neg (pos (suc a * b))
 abs-times (negsuc a) (negsuc b) = refl
+
+less-size : (a b : ℕ) → natAbs (pos a +ℤ negsuc b) ≤ a + suc b
+less-size a b = either (ltb a (suc b)) (λ e. rw e (omega (arith, ltb-true a (suc b) e))) (λ e. rw e (omega arith))
+
+pub abs-plus : (x y : ℤ) → natAbs (x +ℤ y) ≤ natAbs x + natAbs y
+abs-plus (pos a) (pos b) = omega arith
+abs-plus (pos a) (negsuc b) = less-size a b
+abs-plus (negsuc a) (pos b) = omega (arith, less-size b a)
+abs-plus (negsuc a) (negsuc b) = omega arith
+
+pub abs-minus : (x y : ℤ) → natAbs (x -ℤ y) ≤ natAbs x + natAbs y
+abs-minus x y = omega (arith, abs-plus x (negℤ y), abs-neg y)
 
 -- 0 less a number
 pub minus : (z : ℤ) → pos 0 -ℤ z ≡ negℤ z

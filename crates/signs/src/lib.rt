@@ -1,7 +1,7 @@
 // Ways between signed and unsigned numbers. Each contract speaks of whole numbers, so that a caller needs no facts of the machine's bits.
 ghost use mathlib.Core.Path.{_≡_};
-ghost use Prim.Native.Nat.{_<_, _≤_};
-ghost use lib.IntN.{pos, natAbs, _+ℤ_};
+ghost use Prim.Native.Nat.{_*_, _<_, _≤_};
+ghost use lib.IntN.{pos, negℤ, natAbs, _+ℤ_, _-ℤ_, _*ℤ_};
 ghost use lib.Signed.{ltZ};
 ghost use Rattle.signs.specs.Signs.{withSign, isWithin};
 
@@ -53,4 +53,26 @@ pub fn raise(z: i64, k: u64) -> u64
         return k - n;
     }
     n + k
+}
+
+// Products, differences and the opposite, of numbers that leave room for them.
+pub fn times(z: i64, p: u64) -> i64
+    requires { ⌜ (natAbs z * p < 9223372036854775808) × (p < 9223372036854775808) ⌝ }
+    ensures { λ r. ⌜ r ≡ z *ℤ pos p ⌝ }
+{
+    z * (p as i64)
+}
+
+pub fn minus(a: i64, b: i64) -> i64
+    requires { ⌜ (natAbs a < 4611686018427387904) × (natAbs b < 4611686018427387904) ⌝ }
+    ensures { λ r. ⌜ r ≡ a -ℤ b ⌝ }
+{
+    a - b
+}
+
+pub fn negate(z: i64) -> i64
+    requires { ⌜ natAbs z < 9223372036854775808 ⌝ }
+    ensures { λ r. ⌜ r ≡ negℤ z ⌝ }
+{
+    0 - z
 }

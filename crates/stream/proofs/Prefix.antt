@@ -1,8 +1,8 @@
 -- The first eleven bytes of a transaction decide, and of the number of bytes clocked whether it passes eight.
 -- Assumes nothing.
 use Prim.Native.Nat.{ℕ, _+_, _-_, _<_, _≤_, min}
-use mathlib.Core.Path.{_≡_, refl, sym, _∙_}
-use mathlib.Core.Bool.{Bool, true, and-eq-true-iff}
+use mathlib.Core.Path.{_≡_, refl, sym, ap, _∙_}
+use mathlib.Core.Bool.{Bool, true, cond, and-eq-true-iff}
 use mathlib.Core.List.{List, [], _∷_}
 use native.Mathlib.Omega.{arith}
 use lib.ListN.{length, getD, take, length-take}
@@ -10,7 +10,7 @@ use lib.Seq.{take-all, getD-take}
 use lib.Dec.{ltb, leb, eqb}
 use borrow.Author.Tests.{ltb-true, ltb-false, lt-ltb, le-ltb, leb-true, ne-eqb}
 use Rattle.laws.specs.Lists.{allOf}
-use Rattle.laws.proofs.Branches.{either}
+use Rattle.laws.proofs.Branches.{either, cond-same}
 use Rattle.command.specs.declared.table.Row.{Row}
 use Rattle.page.specs.declared.Page.{Page}
 use Rattle.command.specs.Table.{table, rowIn, entryOf, lookup}
@@ -20,8 +20,8 @@ use Rattle.writes.specs.declared.asked.Write.{Write}
 use Rattle.writes.specs.Asked.{asked}
 use Rattle.writes.specs.Answers.{lengthAnswer, codeAnswer, addressedAnswer, writeAnswer}
 use Rattle.reads.specs.declared.request.Request.{Request}
-use Rattle.reads.specs.declared.request.Request.the-variants.{Refused, Plain}
-use Rattle.reads.specs.Request.{plainOf, addressedOf, requestOf, dueOf}
+use Rattle.reads.specs.declared.request.Request.the-variants.{Refused, Plain, Coefficients}
+use Rattle.reads.specs.Request.{plainOf, coefficientsOf, processOf, addressedOf, requestOf, dueOf}
 use Rattle.reads.specs.Answers.{dataAnswer, requestAnswer, readAnswer, answersData}
 use Rattle.reads.specs.Data.{readStream}
 use Rattle.reads.proofs.Requests.{data-any}
@@ -68,6 +68,16 @@ too-long n u s k code w h =
       ne-eqb (length s - 2 - k) 1 (λ e. omega arith),
     )
 
+-- a header of more than six bytes asks for nothing
+long-process : (h : List ℕ) (code : ℕ) → 6 < length h → processOf h code ≡ Refused 2
+unfolding processOf coefficientsOf
+long-process h code l = rw (ne-eqb (length h) 6 (λ e. omega arith)) (cond-same (eqb code 0x30) (Refused 2))
+
+long-refused : (h : List ℕ) → 6 < length h → requestOf h ≡ cond (eqb (getD h 0 0) 0xC0) (Refused 2) (Refused 1)
+unfolding requestOf addressedOf
+long-refused h l =
+    rw (ne-eqb (length h) 0 (λ e. omega arith), ne-eqb (length h) 3 (λ e. omega arith), long-process h (getD h 1 0) l)
+
 module _ (s : List ℕ) (long : 11 < length s) where
   cut : length (take 11 s) ≡ 11
   cut = length-take 11 s ∙ omega arith
@@ -89,14 +99,10 @@ module _ (s : List ℕ) (long : 11 < length s) where
       )
 
   long-request : requestOf (take 11 s) ≡ requestOf s
-  unfolding requestOf addressedOf
   long-request =
-      rw (
-        cut,
-        at s 0 (omega arith),
-        ne-eqb (length s) 0 (λ e. omega arith),
-        ne-eqb (length s) 3 (λ e. omega arith),
-      )
+      let c = cut in
+      long-refused (take 11 s) (omega arith)
+      ∙ ap (λ (x : ℕ). cond (eqb x 0xC0) (Refused 2) (Refused 1)) (at s 0 (omega arith)) ∙ sym (long-refused s (omega arith))
 
   long-orderly : orderly (take 11 s) ≡ orderly s
   unfolding orderly
@@ -136,6 +142,17 @@ unfolding readAnswer
 read-cut u p h n = rw (request-cut h)
 
 -- no request has more than seven data bytes
+process-due : (h : List ℕ) (code : ℕ) → dueOf (processOf h code) ≤ 7
+unfolding processOf coefficientsOf dueOf
+process-due h code =
+    either (eqb code 0x30)
+    (λ a. either (eqb (length h) 6)
+    (λ b. either (eqb (getD h 2 0) 2)
+    (λ c. either (eqb (getD h 5 0) 0xC1) (λ d. rw (a, b, c, d) (omega arith)) (λ d. rw (a, b, c, d) (omega arith)))
+    (λ c. rw (a, b, c) (omega arith)))
+    (λ b. rw (a, b) (omega arith)))
+    (λ a. rw a (omega arith))
+
 few-due : (h : List ℕ) → dueOf (requestOf h) ≤ 7
 unfolding requestOf addressedOf plainOf dueOf
 few-due h =
@@ -145,7 +162,7 @@ few-due h =
     (λ c. either (eqb (getD h 2 0) 0xC1)
     (λ d. either (lookup (getD h 1 0) .read) (λ e. rw (a, b, c, d, e) (at-most-seven (getD h 1 0))) (λ e. rw (a, b, c, d, e) (omega arith)))
     (λ d. rw (a, b, c, d) (omega arith)))
-    (λ c. rw (a, b, c) (omega arith)))
+    (λ c. rw (a, b, c) (process-due h (getD h 1 0))))
     (λ b. rw (a, b) (omega arith)))
 
 many-data : (refused : Bool) (k n : ℕ) → k ≤ 7 → dataAnswer refused k (min n 9) ≡ dataAnswer refused k n
@@ -166,6 +183,7 @@ many : (u : Unpaged) (p : Page) (r : Request) (n : ℕ) → dueOf r ≤ 7 → re
 unfolding requestAnswer dueOf
 many u p (Refused a) n few = refl
 many u p (Plain code k) n few = many-data _ k n few
+many u p (Coefficients code direction) n few = many-data _ 6 n (omega arith)
 
 many-clocked : (u : Unpaged) (p : Page) (header : List ℕ) (n : ℕ) → readAnswer u p header (min n 9) ≡ readAnswer u p header n
 unfolding readAnswer
@@ -187,14 +205,12 @@ read-by-eleven d header n = rw (read-cut (d .unpaged) (pageShown d) header (min 
 abbrev pub readSent : Device → List ℕ → ℕ → List ℕ
 readSent d h n = sent d (read h n) (answered d (read h n))
 
--- nothing behind a header of more than three bytes
-long-silent : (d : Device) (h : List ℕ) (n : ℕ) → 3 < length h → readSent d h n ≡ []
-unfolding sent answered answerOf readAnswer requestOf addressedOf requestAnswer readStream answersData
+-- nothing behind a header of more than six bytes
+long-silent : (d : Device) (h : List ℕ) (n : ℕ) → 6 < length h → readSent d h n ≡ []
+unfolding sent answered answerOf readAnswer requestAnswer readStream answersData
 long-silent d h n l =
-    let some = ne-eqb (length h) 0 (λ e. omega arith) in
-    let long = ne-eqb (length h) 3 (λ e. omega arith) in
     either (deviceValid d)
-    (λ v. either (eqb (getD h 0 0) 0xC0) (λ o. rw (v, some, o, long)) (λ o. rw (v, some, o)))
+    (λ v. either (eqb (getD h 0 0) 0xC0) (λ o. rw (v, long-refused h l, o)) (λ o. rw (v, long-refused h l, o)))
     (λ v. rw v)
 
 pub sent-cut : (d : Device) (h : List ℕ) (n : ℕ) → readSent d (take 11 h) n ≡ readSent d h n

@@ -1,11 +1,12 @@
 // The device: power-on and the six calls, the whole state by value in and back; and which supplies are on.
 ghost use mathlib.Core.Path.{_≡_};
 ghost use lib.ListN.{length};
-ghost use Rattle.device.specs.Device.{usual, powerOn};
+ghost use Rattle.device.specs.Device.{choice, usual, powerOn, powerOnBy};
 ghost use Rattle.device.specs.Step.{write, read, measure, sample, alertResponse, tick, step};
 ghost use Rattle.device.specs.Supply.{suppliesAt};
 use device::Device;
 use device::Done;
+use page::PageChoice;
 
 // The state that power-on leaves.
 #[no_mangle]
@@ -13,6 +14,21 @@ pub extern "C" fn tongsorrel_power_on() -> Device
     ensures { λ r. ⌜ r ≡ powerOn (usual 8) ⌝ }
 {
     device::power_on()
+}
+
+// What is chosen for each page at power-on.
+#[repr(C)]
+pub struct Choices {
+    pub pages: [PageChoice; 8],
+}
+
+// Power-on by a choice for each page: 27, and the state of tongsorrel_power_on, where a format is not valid.
+#[no_mangle]
+pub extern "C" fn tongsorrel_power_on_by(choices: Choices) -> Done
+    ensures { λ r. ⌜ r ≡ powerOnBy (choice (choices .pages)) ⌝ }
+{
+    let pages = choices.pages;
+    device::power_on_by(pages)
 }
 
 // A write transaction: the bytes from START to STOP.
@@ -75,8 +91,8 @@ pub extern "C" fn tongsorrel_supplies(d: Device, page: u8) -> bool
 
 // The layout of the structs and of the state buffer has a number, which stands in this name: a program made for another does not link.
 #[no_mangle]
-pub extern "C" fn tongsorrel_layout_1() -> u32
-    ensures { λ r. ⌜ r ≡ 1 ⌝ }
+pub extern "C" fn tongsorrel_layout_2() -> u32
+    ensures { λ r. ⌜ r ≡ 2 ⌝ }
 {
-    1
+    2
 }

@@ -1,9 +1,9 @@
-// The device that takes the bus event by event, over a state buffer of 466 bytes that the caller lends (data sheet, section 17).
+// The device that takes the bus event by event, over a state buffer of 610 bytes that the caller lends (data sheet, section 17).
 ghost use mathlib.Core.Path.{_≡_};
 ghost use lib.ListN.{length};
 ghost use Rattle.bus.specs.Automaton.{start, byte, again, clock, stop};
 ghost use Rattle.device.specs.Step.{measure, sample, alertResponse, tick};
-ghost use Rattle.buffer.specs.Buffer.{eventFed, eventGives, callFed, callGives, callSends, powerFed, powerGives, bufferSupplies, bufferAlert};
+ghost use Rattle.buffer.specs.Buffer.{eventFed, eventGives, callFed, callGives, callSends, powerFed, powerGives, powerByFed, powerByGives, bufferSupplies, bufferAlert};
 
 // Power-on of a buffer, whatever it holds.
 #[no_mangle]
@@ -11,6 +11,16 @@ pub extern "C" fn tongsorrel_stream_power_on(state: &mut [u8]) -> u8
     ensures { λ r. ⌜ (r ≡ powerGives (now (state .entry))) × (now (state .exit) ≡ powerFed (now (state .entry))) ⌝ }
 {
     buffer::calls::power_on(state)
+}
+
+// Power-on of a buffer by a choice for each page, 30 bytes each: three formats (a mark, m, b, R) and six fault limits. Choices that are not
+// granted get 27, and the buffer is then as tongsorrel_stream_power_on leaves it.
+#[no_mangle]
+pub extern "C" fn tongsorrel_stream_power_on_by(state: &mut [u8], choices: &[u8]) -> u8
+    ensures { λ r. ⌜ (r ≡ powerByGives (now (state .entry)) (now (choices .entry)))
+        × (now (state .exit) ≡ powerByFed (now (state .entry)) (now (choices .entry))) ⌝ }
+{
+    buffer::calls::power_on_by(state, choices)
 }
 
 // START.

@@ -1,9 +1,11 @@
-// The packet check of bytes, and the values of Linear11 words.
+// The packet check of bytes, the values of Linear11 words, and the order of values in any two formats.
 ghost use mathlib.Core.Path.{_≡_};
 ghost use Rattle.pec.specs.Pec.{pec, pecFrom};
 ghost use Rattle.linear11.specs.Linear11.{scaledOf, linearOrder};
-ghost use Rattle.tongsorrel.specs.Numbers.{orderNumber};
+ghost use Rattle.value.specs.Format.{comparison};
+ghost use Rattle.tongsorrel.specs.Numbers.{orderNumber, compared};
 use linear11::Order;
+use value::format::Format;
 
 // The packet check (PEC) of a whole transaction, address bytes included.
 #[no_mangle]
@@ -47,4 +49,24 @@ pub extern "C" fn tongsorrel_linear11_compare(a: u16, b: u16) -> u8
 {
     let order = linear11::compare_linear11(a, b);
     order_number(order)
+}
+
+// An answer, and how one value stands to another as a number.
+#[repr(C)]
+pub struct Compared {
+    pub answer: u8,
+    pub order: u8,
+}
+
+// How the value of the word a in format f stands to that of b in format g: 27 where a format is not valid.
+#[no_mangle]
+pub extern "C" fn tongsorrel_compare(f: Format, a: u16, g: Format, b: u16) -> Compared
+    ensures { λ r. ⌜ r ≡ compared (comparison f a g b) ⌝ }
+{
+    let c = value::compare(f, a, g, b);
+    let order = c.order;
+    Compared {
+        answer: c.answer,
+        order: order_number(order),
+    }
 }

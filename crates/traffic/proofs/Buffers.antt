@@ -1,6 +1,6 @@
 -- The streaming device over a lent buffer is the streaming device.
 -- Assumes nothing.
-use Prim.Native.Nat.{ℕ}
+use Prim.Native.Nat.{ℕ, _*_}
 use mathlib.Core.Path.{_≡_, refl, sym, ap, ap₂, _∙_, subst}
 use mathlib.Core.Bool.{true, false, and-eq-true-iff}
 use mathlib.Core.List.{List, [], _∷_, append-nil}
@@ -19,15 +19,16 @@ use Rattle.device.specs.Step.{Call, write, read, measure, sample, alertResponse
 use Rattle.device.proofs.PowerOn.{usual-granted}
 use Rattle.stream.specs.Stream.{State, state, stateValid, partNext, ended, beginAnswer, byteAck, byteSent, stopped, called, Turn, on, call, deviceNext, after, feed}
 use Rattle.stream.proofs.Fold.{fifteen-left}
-use Rattle.layout.specs.Layout.{partForm, stateForm, size}
+use Rattle.layout.specs.Form.{array}
+use Rattle.layout.specs.Layout.{partForm, stateForm, choiceForm, choicesIn, size}
 use Rattle.layout.specs.State.{decode, encode, ready, partOf, deviceOf}
-use Rattle.layout.proofs.Laws.{state-back}
+use Rattle.layout.proofs.Laws.{array-back, state-back, choice-back}
 use Rattle.layout.proofs.StoredPart.{idle-sized, part-length, part-decodes}
-use Rattle.layout.proofs.EightPages.{whole-wide}
-use Rattle.buffer.specs.Buffer.{stores, storeDevice, callFed, endStores, stopFed, partFed, takenOf, eventFed, powerFed, gives, refuses, eventGives, callGives, callSends, powerGives}
-use Rattle.buffer.proofs.Ending.{power-fits}
+use Rattle.layout.proofs.EightPages.{whole-wide, choice-wide}
+use Rattle.buffer.specs.Buffer.{stores, storeDevice, callFed, endStores, stopFed, partFed, takenOf, eventFed, powerFed, poweredBy, powerByFed, gives, refuses, eventGives, callGives, callSends, powerGives, powerByGives}
+use Rattle.buffer.proofs.Powering.{power-fits, by-choice}
 use Rattle.traffic.specs.Runs.{NoFifteen}
-use Rattle.traffic.specs.Buffers.{Decodes, EventsDecode, CallsDecode, PowerDecodes, LengthStays, Given, GivesSame, LeftAlone, WrongLength, fedAll, BufferRuns, AlwaysReady}
+use Rattle.traffic.specs.Buffers.{Decodes, EventsDecode, CallsDecode, PowerDecodes, ChoicesDecode, PowerByDecodes, LengthStays, Given, GivesSame, LeftAlone, WrongLength, WrongLengthBy, fedAll, BufferRuns, AlwaysReady, AlwaysReadyBy}
 use Rattle.traffic.proofs.Runs.{no-fifteen}
 use Rattle.traffic.proofs.StoredDevice.{Storable, device-length, device-decodes}
 use Rattle.traffic.proofs.Fitting.{held-sized, next-sized, held-fitting, call-storable, ended-storable}
@@ -52,6 +53,24 @@ power-decodes s long = ap decode (power-is s long) ∙ decodes (state idle (powe
 power-length : (s : List ℕ) → length s ≡ size → length (powerFed s) ≡ size
 unfolding Decodes
 power-length s long = ap length (power-is s long) ∙ decodes (state idle (powerOn (usual 8))) power-fits .0
+
+pub choices-decode : ChoicesDecode
+unfolding ChoicesDecode
+choices-decode cs fits =
+    let b = array-back choiceForm choice-back 8 in
+    (b .sized cs fits ∙ ap (λ (w : ℕ). 8 * w) choice-wide, ap (λ (t : List ℕ). choicesIn t) (sym (append-nil (array 8 choiceForm .put cs))) ∙ b .back cs fits [] [])
+
+power-by-is : (s cs : List ℕ) → length s ≡ size → powerByFed s cs ≡ encode (state idle (poweredBy cs .device))
+unfolding powerByFed
+power-by-is s cs long = rw (eq-eqb (length s) size long)
+
+pub power-by-decodes : PowerByDecodes
+unfolding PowerByDecodes Decodes
+power-by-decodes s cs long =
+    let b = by-choice cs in
+    let fits : stateForm .Fits (state idle (poweredBy cs .device)) = rw (b .same) (b .fits) in
+    let e = decodes (state idle (poweredBy cs .device)) fits in
+    (ap length (power-by-is s cs long) ∙ e .0, ap decode (power-by-is s cs long) ∙ e .1)
 
 -- ---- STOP, by the test for 15
 
@@ -250,6 +269,10 @@ pub wrong-length : WrongLength
 unfolding WrongLength ready powerFed powerGives
 wrong-length s h = let n = ne-eqb (length s) size h in (rw n, (rw n, rw n))
 
+pub wrong-length-by : WrongLengthBy
+unfolding WrongLengthBy powerByFed powerByGives
+wrong-length-by s cs h = let n = ne-eqb (length s) size h in (rw n, rw n)
+
 -- ---- runs
 
 pub buffer-runs : BufferRuns
@@ -273,3 +296,12 @@ always-ready s ts long =
     ready-is (fedAll (powerFed s) ts) (run-length (powerFed s) ts m)
     ∙ ap stateValid (buffer-runs (powerFed s) ts m ∙ ap (λ (x : State). feed x ts) (power-decodes s long))
     ∙ no-fifteen (usual 8) ts (usual-granted 8)
+
+pub always-ready-by : AlwaysReadyBy
+unfolding AlwaysReadyBy BufferRuns PowerByDecodes NoFifteen
+always-ready-by s cs ts long =
+    let b = by-choice cs in
+    let p = power-by-decodes s cs long in
+    ready-is (fedAll (powerByFed s cs) ts) (run-length (powerByFed s cs) ts (p .0))
+    ∙ ap stateValid (buffer-runs (powerByFed s cs) ts (p .0) ∙ ap (λ (x : State). feed x ts) (p .1 ∙ ap (λ (d : Device). state idle d) (b .same)))
+    ∙ no-fifteen (b .x) ts (b .is-granted)

@@ -5,6 +5,7 @@ use Prim.Native.Nat.{ℕ, _≤_}
 use mathlib.Core.Path.{_≡_, refl, sym, ap, ap₂, _∙_, subst}
 use mathlib.Core.Bool.{true, false, _&&_, and-eq-true-iff, and-false, false≢true}
 use mathlib.Core.List.{List, [], _∷_, _++_}
+use native.Mathlib.Omega.{arith}
 use lib.ListN.{length}
 use lib.Dec.{eqb}
 use borrow.Author.Tests.{eqb-true, ne-eqb}
@@ -34,7 +35,7 @@ use Rattle.device.proofs.PowerOn.{powered}
 use Rattle.device.proofs.States.{answer-zero}
 use Rattle.history.specs.Run.{next, answer}
 use Rattle.history.specs.Energy.{isEnergyReply}
-use Rattle.history.proofs.Outcomes.{done-next, by-answer, sends-data}
+use Rattle.history.proofs.Outcomes.{done-next, by-answer, sends-code}
 use Rattle.history.proofs.Account.{energyOf, refused-keeps, write-keeps, read-keeps, measure-keeps, alert-keeps, tick-keeps}
 use Rattle.history.proofs.Energy.{the-reply}
 use Rattle.stream.specs.Stream.{State, ended, byteSent, stopped, called, Turn, on, call, deviceNext, after}
@@ -156,7 +157,8 @@ module _ (s : State) (g : Pending) (d : Device) where
       let eight = eqb-true n 8 (b .1) in
       let t = talked s h (readSent d h 8) n (f .matches) in
       let z : answer (s .device) (read h n) ≡ 0 = ap (λ (r : Done). r .answer) (sym t) ∙ eqb-true (stopped s .answer) 0 (a .1) in
-      let ein : h ≡ einHeader = sends-data (s .device) h n (ap answersData z) .spelled ∙ rw (eqb-true (codeOf h) 0x86 (b .0)) in
+      let is = eqb-true (codeOf h) 0x86 (b .0) in
+      let ein : h ≡ einHeader = sends-code (s .device) h n (ap answersData z) (λ e. omega arith) .spelled ∙ rw is in
       f .said
       ∙ ap₂ (λ (x : List ℕ) (k : ℕ). replyOf (readSent d x 8) k) ein eight
       ∙ the-reply d einHeader 8 (ein-known d (f .made))

@@ -19,7 +19,8 @@ use Rattle.page.specs.Page.{powerOnPage}
 use Rattle.page.specs.Choice.{chosenPage}
 use Rattle.retry.specs.Machines.{allValid}
 use Rattle.cause.specs.Causes.{causes}
-use Rattle.page.specs.Settings.{pageValid, validOperation}
+use Rattle.value.specs.Format.{formatValid}
+use Rattle.page.specs.Settings.{pageValid, validOperation, formatsValid}
 use Rattle.unpaged.specs.Unpaged.{powerOnUnpaged, validPage, validProtect, unpagedValid, refused, shown}
 use Rattle.reads.specs.Request.{plainOf, addressedOf, requestOf}
 use Rattle.reads.specs.Answers.{dataAnswer, requestAnswer, readAnswer, answersData}
@@ -76,6 +77,7 @@ unfolding
     ReadsExample turns streamLog pendingAfter callPending logCopies accountValid added sampled einBytes accountOf freshTotalizer
     energyReading clockedFor replyCheck checkHolds accountAnswer replyAnswer nextEnergy nextSamples booked totalize totalizing.added pec
     pecFrom pecByte pecBit table entryOf lookup commandOf readingOf paged powerOnPage pageValid validOperation allValid causes
+    formatsValid formatValid
     powerOnUnpaged validPage validProtect unpagedValid refused shown plainOf addressedOf requestOf dataAnswer requestAnswer readAnswer
     answersData readData requestData checked readStream usual chosenPage chosenUnpaged powerOn supported deviceValid step answerOf
     calls.answered effect left sent partValid idle started taking clocking afterByte afterAgain afterClock byted restarted clocked

@@ -8,10 +8,11 @@ use mathlib.Core.List.{List, [], _∷_, _++_, append-nil}
 use native.Mathlib.Omega.{arith}
 use lib.Bits.{bitXor, xor-lt, xor-zero-l}
 use lib.Dec.{eqb, ltb, ltb→lt}
-use lib.ListN.{length, getD, replicate, length-replicate}
+use lib.ListN.{length, getD, replicate, length-replicate, getD-replicate}
 use lib.Seq.{append-snoc, take-all}
 use Rattle.laws.specs.Lists.{Bytes}
 use Rattle.laws.proofs.Every.{each, agree}
+use Rattle.laws.proofs.Lists.{all-replicate}
 use Rattle.pec.specs.Pec.{pec, pecFrom, pecByte, pecBit}
 use Rattle.pec.proofs.Xor.{xor-undone}
 use Rattle.pec.proofs.Laws.{pec-lt, pec-append}
@@ -25,6 +26,9 @@ use Rattle.command.specs.Paged.{paged}
 use Rattle.bus.specs.Part.{partValid, idle}
 use Rattle.bus.specs.Automaton.{start, byte, again, clock, stop}
 use Rattle.bus.specs.Orders.{writeOrder, readOrder}
+use Rattle.page.specs.declared.Page.{Page}
+use Rattle.page.specs.declared.PageChoice.{PageChoice}
+use Rattle.page.specs.Choice.{usualPage, pageGranted, chosenPage}
 use Rattle.unpaged.specs.Unpaged.{powerOnUnpaged, everyPage}
 use Rattle.writes.specs.Asked.{writeOf, asked, validSetting, validWrite}
 use Rattle.writes.specs.Answers.{permitted, dataAnswer, lengthAnswer, codeAnswer, addressedAnswer, writeAnswer}
@@ -33,7 +37,7 @@ use Rattle.reads.specs.Answers.{dataAnswer as clockedAnswer, requestAnswer, rea
 use Rattle.reads.specs.Data.{wordBytes, readData, requestData, checked, readStream}
 use Rattle.reads.specs.Reply.{replyOf}
 use Rattle.device.specs.declared.Device.{Device}
-use Rattle.device.specs.Device.{usual, supported, powerOn, deviceValid, pageShown}
+use Rattle.device.specs.Device.{choice, usual, supported, granted, powerOn, deviceValid, pageShown}
 use Rattle.device.specs.Step.{write, sample, answerOf, answered, effect, sent, step}
 use Rattle.device.proofs.States.{answered-of}
 use Rattle.device.proofs.PowerOn.{usual-number, usual-granted, usual-device, powered}
@@ -48,7 +52,7 @@ use Rattle.stream.proofs.Prefix.{readSent, sent-any}
 use Rattle.stream.proofs.Fold.{Hears, hear-start, hear-byte, hear-again, Talks, talk-start, talk-clock, feed-append}
 use Rattle.stream.proofs.Claims.{no-start}
 use Rattle.traffic.specs.Runs.{NoFifteen, aWrite, AsRun}
-use Rattle.traffic.specs.Occurs.{reachedBy, PhaseOccurs, CountOccurs, ClockedOccurs, BytesOccur, ReplyOccurs}
+use Rattle.traffic.specs.Occurs.{reachedBy, PhaseOccurs, CountOccurs, ClockedOccurs, BytesOccur, ReplyOccurs, FormatsOccur}
 use Rattle.traffic.proofs.Runs.{part-of, feed-valid, no-fifteen, call-device, as-run}
 
 -- ---- every state of a run is valid
@@ -387,3 +391,21 @@ reply-occurs (suc (suc (suc (suc (suc zero))))) x k h = fifth x h
 reply-occurs (suc (suc (suc (suc (suc (suc zero)))))) x k h = sixth x h
 reply-occurs (suc (suc (suc (suc (suc (suc (suc zero))))))) x k h = seventh x h
 reply-occurs (suc (suc (suc (suc (suc (suc (suc (suc n)))))))) x k h = absurd (omega arith)
+
+-- ---- formats
+
+pub formats-occur : FormatsOccur
+unfolding FormatsOccur granted supported pageGranted chosenPage
+formats-occur fs v =
+    let c : PageChoice = record { formats = fs; limits = [] } in
+    let x = choice (replicate 8 c) in (
+      x,
+      (
+        all-replicate pageGranted 8 c v,
+        (
+          refl,
+          λ i h. ap (λ (p : Page). p .formats) (powered x .page i h)
+              ∙ ap (λ (k : PageChoice). k .formats) (getD-replicate 8 i c usualPage h),
+        ),
+      ),
+    )

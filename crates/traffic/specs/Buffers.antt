@@ -8,12 +8,14 @@ use mathlib.Core.List.{List, [], _∷_}
 use lib.ListN.{length}
 use Rattle.bus.specs.Part.{idle}
 use Rattle.bus.specs.Automaton.{Event, start, byte, again, clock, stop}
+use Rattle.page.specs.declared.PageChoice.{PageChoice}
 use Rattle.device.specs.Device.{usual, powerOn}
 use Rattle.device.specs.Step.{Call}
 use Rattle.stream.specs.Stream.{State, state, beginAnswer, byteAck, byteSent, stopped, called, Turn, on, call, after, feed}
-use Rattle.layout.specs.Layout.{stateForm, size}
+use Rattle.layout.specs.Form.{array}
+use Rattle.layout.specs.Layout.{stateForm, choiceForm, choicesIn, choicesSize, size}
 use Rattle.layout.specs.State.{decode, encode, ready}
-use Rattle.buffer.specs.Buffer.{callFed, eventFed, powerFed, refuses, eventGives, callGives, callSends, powerGives}
+use Rattle.buffer.specs.Buffer.{callFed, eventFed, powerFed, poweredBy, powerByFed, refuses, eventGives, callGives, callSends, powerGives, powerByGives}
 
 -- ---- what is left of a buffer of the right length
 
@@ -30,6 +32,18 @@ CallsDecode = (s : List ℕ) (c : Call) → length s ≡ size → decode (callFe
 
 unfoldable pub PowerDecodes : Type 0
 PowerDecodes = (s : List ℕ) → length s ≡ size → decode (powerFed s) ≡ state idle (powerOn (usual 8))
+
+-- the bytes of eight choices hold them
+unfoldable pub ChoicesDecode : Type 0
+ChoicesDecode =
+    (cs : List PageChoice) → array 8 choiceForm .Fits cs
+    → (length (array 8 choiceForm .put cs) ≡ choicesSize) × (choicesIn (array 8 choiceForm .put cs) ≡ cs)
+
+-- power-on by choices, whatever bytes these are
+unfoldable pub PowerByDecodes : Type 0
+PowerByDecodes =
+    (s cs : List ℕ) → length s ≡ size
+    → (length (powerByFed s cs) ≡ size) × (decode (powerByFed s cs) ≡ state idle (poweredBy cs .device))
 
 unfoldable pub LengthStays : Type 0
 LengthStays =
@@ -61,6 +75,9 @@ LeftAlone =
 unfoldable pub WrongLength : Type 0
 WrongLength = (s : List ℕ) → (length s ≡ size → ⊥) → (ready s ≡ false) × ((powerFed s ≡ s) × (powerGives s ≡ 15))
 
+unfoldable pub WrongLengthBy : Type 0
+WrongLengthBy = (s cs : List ℕ) → (length s ≡ size → ⊥) → (powerByFed s cs ≡ s) × (powerByGives s cs ≡ 15)
+
 -- ---- runs
 
 unfoldable pub fedAll : List ℕ → List Turn → List ℕ
@@ -74,3 +91,7 @@ BufferRuns = (s : List ℕ) (ts : List Turn) → length s ≡ size → decode (f
 -- no event and no call of a run from power-on gets 15
 unfoldable pub AlwaysReady : Type 0
 AlwaysReady = (s : List ℕ) (ts : List Turn) → length s ≡ size → ready (fedAll (powerFed s) ts) ≡ true
+
+-- nor from power-on by choices, granted or not
+unfoldable pub AlwaysReadyBy : Type 0
+AlwaysReadyBy = (s cs : List ℕ) (ts : List Turn) → length s ≡ size → ready (fedAll (powerByFed s cs) ts) ≡ true

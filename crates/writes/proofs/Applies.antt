@@ -18,7 +18,7 @@ use Rattle.cause.specs.Causes.{Actions, voltage, current, causes, responseOf, v
 use Rattle.command.specs.Table.{lookup}
 use Rattle.command.specs.Meaning.{commandOf, settingOf, faultOf, readingOf}
 use Rattle.command.specs.declared.meaning.Command.{Command}
-use Rattle.command.specs.declared.meaning.Command.the-variants.{SelectPage, Operation, ClearFaults, WriteProtect, Capability, VoutMode, VoutCommand, Limit, Response, StatusByte, StatusWord, Status, ReadEin, Reading, Revision, Absent}
+use Rattle.command.specs.declared.meaning.Command.the-variants.{SelectPage, Operation, ClearFaults, WriteProtect, Capability, VoutMode, VoutCommand, Limit, Response, StatusByte, StatusWord, Status, ReadEin, Reading, Revision, Absent, Coefficients}
 use Rattle.page.specs.Settings.{validOperation, validResponse}
 use Rattle.unpaged.specs.declared.Unpaged.{Unpaged}
 use Rattle.unpaged.specs.Unpaged.{validPage, validProtect}
@@ -72,6 +72,7 @@ groupOf ReadEin = 4
 groupOf (Reading q) = 4
 groupOf Revision = 4
 groupOf Absent = 4
+groupOf Coefficients = 4
 
 abbrev groupAt : ℕ → ℕ
 groupAt c =
@@ -115,6 +116,7 @@ module _ (n x w : ℕ) (byte : x < 256) where
   valid-command (Reading q) = refl
   valid-command Revision = refl
   valid-command Absent = refl
+  valid-command Coefficients = refl
 
 module _ (n : ℕ) (u : Unpaged) (s : List ℕ) (bytes : Bytes s) where
   valid-same : validWrite n (asked s) ≡ validFor n (code s) (getD s 2 0)

@@ -4,8 +4,10 @@
 //! the present limits and the device does not stay protected, tripped or full of
 //! status bits.
 
-use reference::command::{self, Command};
-use reference::device::{Page, ALL_PAGES, IOUT, TEMPERATURE, VIN, VOUT};
+use reference::command::{self, code, Access, Command};
+use reference::device::{
+    Page, ALL_PAGES, IOUT, READ_ADDRESS, TEMPERATURE, VIN, VOUT, WRITE_ADDRESS,
+};
 use reference::frame::{self, Shelf};
 use reference::linear11;
 use reference::pec::pec;
@@ -101,7 +103,8 @@ impl Generator {
         match self.random.below(1000) {
             0..=239 => self.measurement(),
             240..=509 => self.write(),
-            510..=679 => self.read(),
+            510..=669 => self.read(),
+            670..=679 => self.process_call(),
             680..=739 => vec![b'0', b'7'],
             740..=749 => self.ticks_in_a_row(),
             750..=757 => self.retries(),
@@ -343,9 +346,41 @@ impl Generator {
         frame_line(0x02, &[n, 0xC0, code, 0xC1])
     }
 
+    /// A process call: byte count, a code to ask about and a direction, all right more
+    /// often than not.
+    fn process_call(&mut self) -> Vec<u8> {
+        let process_call = |command: &Command| command.access == Access::Call;
+        let own = self.table_code(process_call);
+        let (any, limit) = (self.random.byte(), self.random.pick(&LIMITS).0);
+        let of = self.random.pick(&[any, limit, code::READ_VIN]);
+        let direction = self.random.pick(&[0x00, 0x01, 0x01, 0x02]);
+        let mut header = match own {
+            code::COEFFICIENTS => vec![WRITE_ADDRESS, own, 0x02, of, direction, READ_ADDRESS],
+            _ => unreachable!("{own:02x} is a process call"),
+        };
+        match self.random.below(10) {
+            0 => {
+                let place = self.random.below(header.len());
+                header[place] = self.random.byte();
+            }
+            1 => drop(header.remove(self.random.below(header.len()))),
+            2 => {
+                let place = self.random.below(header.len());
+                header.insert(place, self.random.byte());
+            }
+            _ => {}
+        }
+        let n = self.clocked_of(6);
+        frame_line(0x02, &[&[n], &header[..]].concat())
+    }
+
     /// How many bytes the host clocks.
     fn clocked(&mut self, code: u8) -> u8 {
         let data = command::lookup(code).map_or(1, |command| command.data as u8);
+        self.clocked_of(data)
+    }
+
+    fn clocked_of(&mut self, data: u8) -> u8 {
         match self.random.below(40) {
             0 => 0,
             1 => 1,

@@ -212,7 +212,7 @@ pub mod second {
 pub mod plain {
     use conformance::buffer::{Part, BROKEN, READING, TURNING, WRITING};
     use conformance::library::stream::{ACK, NACK};
-    use conformance::library::{Device, Page, Unpaged};
+    use conformance::library::{Device, Format, Page, Unpaged};
 
     pub struct Plain {
         pub part: Part,
@@ -227,12 +227,17 @@ pub mod plain {
             && unpaged.energy.count <= 0xFF_FFFF
     }
 
+    fn format_valid(format: &Format) -> bool {
+        !format.direct || format.m != 0 && matches!(format.r, 0..=6 | 0xFA..)
+    }
+
     fn page_valid(page: &Page) -> bool {
         const IOUT_OC: usize = 1;
         matches!(page.operation, 0x00 | 0x40 | 0x80)
             && matches!(page.responses[IOUT_OC], 0x00 | 0xC0)
             && page.machines[IOUT_OC] == 0
             && page.machines.iter().all(|&machine| machine <= 64)
+            && page.formats.iter().all(format_valid)
     }
 
     /// Data bytes of a code; none for a code that is not there.
@@ -266,6 +271,7 @@ pub mod plain {
             | 0x79
             | 0x88
             | 0x8B..=0x8D => Some(2),
+            0x30 => Some(3),
             0x86 => Some(7),
             _ => None,
         }

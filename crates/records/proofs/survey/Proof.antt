@@ -157,7 +157,7 @@ module _ {M : Type 1} (𝓤 : URA M) (H : Heap 𝓤) (A : Atoms 𝓤) (W : Given
           calls-plain ! fm (Count 𝓤 H A mem run) last ((tt, tt, tt, (n, (c, tt)), (vint w64 n ∷ [], (vbool c ∷ [], tt))), tt) (word64 ∷ flag ∷ []) (n, (c, tt)) ((refl, room .0), (refl, tt)) seen (λ r. r ≡ counted n c) (id⊢ 𝓤 _) (λ w. id⊢ 𝓤 _) (and-then ! (load ! (from ! (stop !)) (look ! 8 refl)) (and-then ! (load ! (from ! (stop !)) (look ! 10 refl)) (no-more !))) (λ r gr er.
           land ! (from ! (stop !)) (init ! 3 refl (seen .lawful 𝓤 H A W .typed r (seen .spell r) gr .0)) $ returns ! (look ! 3 refl) $ move ! (span 3 22) $
           free-all ! E ((_ ∷ []) ∷ (vals .0) ∷ (vint w64 n ∷ []) ∷ (vbool c ∷ []) ∷ (vint w64 i ∷ []) ∷ (_ ∷ []) ∷ (_ ∷ []) ∷ (_ ∷ []) ∷ [])
-          (by ! (exits r gr (er ∙ survey-end ys i c over (t .2))))))
+          (by ! (exits r gr (er ∙ survey-end pageValid noPage ys i c over (t .2))))))
         where
           i : ℕ
           i = t .0

@@ -1,6 +1,6 @@
 -- `buffer::calls::powered` meets its contract.
 -- Assumes nothing.
-use Rattle.buffer.proofs.Ending.{powered-made}
+use Rattle.buffer.proofs.Powering.{powered-made}
 use borrow.Author.Needs.{needs}
 use Rattle.buffer.proofs.calls.powered.Statement.{statement}
 use Rattle.buffer.proofs.calls.powered.Tie as tie

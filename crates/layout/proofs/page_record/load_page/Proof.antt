@@ -56,6 +56,12 @@ add-o8 c = search needs
 mark-at-requires : tie.Need-mark-at-requires
 mark-at-requires c κs = search needs
 
+add-o9 : tie.Need-add-o9
+add-o9 c = search needs
+
+load-formats-requires : tie.Need-load-formats-requires
+load-formats-requires c κs = search needs
+
 returns : tie.Need-returns
 unfolding pageForm
 returns c = cc
@@ -81,4 +87,6 @@ load-page-spec =
     four-bytes-requires
     add-o8
     mark-at-requires
+    add-o9
+    load-formats-requires
     returns)

@@ -14,6 +14,12 @@ add-o1 c = search needs
 save-values-requires : tie.Need-save-values-requires
 save-values-requires c κs = search needs
 
+add-o2 : tie.Need-add-o2
+add-o2 c = search needs
+
+save-formats-requires : tie.Need-save-formats-requires
+save-formats-requires c κs = search needs
+
 same-length : tie.Need-same-length
 same-length c = search needs
 
@@ -23,4 +29,4 @@ returns c = cc
 
 pub save-page-spec : {M : Type 1} → statement M
 save-page-spec =
-    tie.close (tie.spec save-settings-requires add-o1 save-values-requires same-length returns)
+    tie.close (tie.spec save-settings-requires add-o1 save-values-requires add-o2 save-formats-requires same-length returns)

@@ -17,6 +17,9 @@ valid-response-requires c κs = search needs
 all-valid-requires : tie.Need-all-valid-requires
 all-valid-requires c κs = search needs
 
+formats-valid-requires : tie.Need-formats-valid-requires
+formats-valid-requires c κs = search needs
+
 returns : tie.Need-returns
 returns c = rw (← page-valid) cc
 
@@ -28,4 +31,5 @@ page-valid-spec =
     element-copy-out-valid-response
     valid-response-requires
     all-valid-requires
+    formats-valid-requires
     returns)

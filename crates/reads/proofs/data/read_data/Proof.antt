@@ -101,6 +101,12 @@ enum-told-12 c = search needs
 none-requires-2 : tie.Need-none-requires-2
 none-requires-2 c κs = search needs
 
+enum-told-13 : tie.Need-enum-told-13
+enum-told-13 c = search needs
+
+none-requires-3 : tie.Need-none-requires-3
+none-requires-3 c κs = search needs
+
 returns : tie.Need-returns
 unfolding readData
 returns c = rw (c .before .enum-told .given .1) (c .one .ensures)
@@ -165,6 +171,10 @@ returns-16 : tie.Need-returns-16
 unfolding readData
 returns-16 c = rw (c .before .enum-told12 .given .1) (c .none2 .ensures)
 
+returns-17 : tie.Need-returns-17
+unfolding readData
+returns-17 c = rw (c .before .enum-told13 .given .1) (c .none3 .ensures)
+
 pub read-data-spec : {M : Type 1} → statement M
 read-data-spec =
     tie.close
@@ -201,6 +211,8 @@ read-data-spec =
     one-requires-6
     enum-told-12
     none-requires-2
+    enum-told-13
+    none-requires-3
     returns
     returns-2
     returns-3
@@ -216,4 +228,5 @@ read-data-spec =
     returns-13
     returns-14
     returns-15
-    returns-16)
+    returns-16
+    returns-17)

@@ -23,12 +23,12 @@ returns-2 : tie.Need-returns-2
 unfolding addressedOf
 returns-2 c = search calls depth 30 fits 20000
 
-malformed-requires-2 : tie.Need-malformed-requires-2
-malformed-requires-2 c κs = search needs
+process-of-requires : tie.Need-process-of-requires
+process-of-requires c κs = search needs
 
 returns-3 : tie.Need-returns-3
 unfolding addressedOf
 returns-3 c = search calls depth 30 fits 20000
 
 pub addressed-of-spec : {M : Type 1} → statement M
-addressed-of-spec = tie.close (tie.spec shared-slice-read-if2 malformed-requires returns code-of-requires returns-2 malformed-requires-2 returns-3)
+addressed-of-spec = tie.close (tie.spec shared-slice-read-if2 malformed-requires returns code-of-requires returns-2 process-of-requires returns-3)
