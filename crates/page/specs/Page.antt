@@ -26,7 +26,7 @@ powerOnPage = record {
   words = 0 ∷ 0 ∷ 0 ∷ 0 ∷ [];
   measured = false ∷ false ∷ false ∷ false ∷ [];
   status = 0 ∷ 0 ∷ 0 ∷ 0 ∷ [];
-  tripped = false;
+  tripped = false;  -- at power-on
   formats = linearFormat ∷ linearFormat ∷ linearFormat ∷ [];
 }
 
