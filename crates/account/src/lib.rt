@@ -1,5 +1,7 @@
 // The energy account behind READ_EIN: accumulator, rollover count and sample count, and the reply bytes that carry them.
 // It knows nothing of the device that holds it.
+#![tactic(auto)]
+
 ghost use Rattle.std.specs.Prelude.{◌≡◌, ◌<◌, get_or};
 ghost use Rattle.account.specs.Account.{account_valid, added, sampled, energy_reading, ein_bytes, account_of};
 

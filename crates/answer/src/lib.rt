@@ -1,4 +1,6 @@
 // The answer numbers (data sheet 11.2 to 11.5), by name.
+#![tactic(auto)]
+
 
 pub const DONE: u8 = 0;
 

@@ -1,5 +1,7 @@
 // The bench program: a frame file (data sheet 13.1) on standard input, the answers on standard output. What a line does, and that
 // the blocks of a file give the text of its lines, is proved in `frame`; here are the reads and the writes.
+#![tactic(auto)]
+
 ghost use Rattle.std.specs.Prelude.{ℕ, ◌≤◌, ◌<◌, ◌≡◌, true, List, length, take};
 ghost use Rattle.frame.specs.Blocks.{feed};
 ghost use Rattle.io.specs.Counts.{IsPrefixLen};

@@ -1,5 +1,7 @@
 // One transaction as the bus hands it over, byte by byte: what is kept of it, which bytes get an ACK, and what is sent. The
 // rules of a transaction are not here; at STOP the bytes kept go to them (crate stream).
+#![tactic(auto)]
+
 ghost use Rattle.std.specs.Prelude.{◌≡◌, min, get_or};
 ghost use Rattle.bus.specs.Part.{in_phase, clocking, started, idle, part_valid};
 ghost use Rattle.bus.specs.Automaton.{after_byte, after_again, after_clock, restarted, clocked, clock_byte};

@@ -1,4 +1,6 @@
 // The command codes: their table of access and data length, what each of them means, which act on a page, and which carry values.
+#![tactic(auto)]
+
 pub mod meaning;
 pub mod paged;
 pub mod quantity;

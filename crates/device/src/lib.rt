@@ -1,5 +1,7 @@
 // The shelf device: eight pages behind one address. Power-on and the six calls; each takes the whole state by value and
 // hands it back with the answer number. Any bytes, numbers and states are taken.
+#![tactic(auto)]
+
 ghost use Rattle.std.specs.Prelude.{◌≡◌, length};
 ghost use Rattle.device.specs.Device.{choice, usual, power_on, power_on_by};
 ghost use Rattle.device.specs.Step.{write, read, measure, sample, alert_response, tick, step};

@@ -1,4 +1,6 @@
 // The frame file (data sheet 13.1): a line of characters in, a call of the device, a line of text out.
+#![tactic(auto)]
+
 ghost use Rattle.frame.specs.Line.{line_outcome, Told};
 
 use device::Device;

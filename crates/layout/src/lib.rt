@@ -1,5 +1,7 @@
 // The state of the streaming device as bytes (specs/Layout.antt has the layout): its parts read from their places and stored there, and the test
 // for 15 on the bytes. Behind that test a buffer has the right length, which the functions that read or store a part ask for.
+#![tactic(auto)]
+
 pub mod choices; // choices.rt: what is chosen at power-on
 mod formats; // formats.rt: the formats of a page
 pub mod leaf; // leaf.rt: bytes, words, marks

@@ -3,6 +3,8 @@
 // values in them, are taken; with none, or more than 96, a call reads no record. A call takes one record out, asks the rules by value, and puts it back; of the others it only
 // asks whether they are valid and, after a clearing, whether a status bit stands. A tick walks over all, and so does a write where PAGE is FFh:
 // no record has that index, so the one taken out is none of them, and putting it back sets none.
+#![tactic(auto)]
+
 ghost use Rattle.std.specs.Prelude.{◌≡◌, ◌&&◌, ltb, length, get_or};
 ghost use Rattle.page.specs.Page.{no_page};
 ghost use Rattle.page.specs.Status.{supplies};

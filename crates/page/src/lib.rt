@@ -1,6 +1,8 @@
 // One supply of the shelf: its settings, its measured values, its four status registers, its
 // retry machines and whether it has tripped.
 // Every rule takes the page by value and hands it back.
+#![tactic(auto)]
+
 ghost use Rattle.std.specs.Prelude.{◌≡◌, cond};
 ghost use Rattle.page.specs.Page.{power_on_page};
 ghost use Rattle.page.specs.Choice.{page_granted, chosen_limits, chosen_page};

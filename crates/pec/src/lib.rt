@@ -1,4 +1,6 @@
 // The packet check (PEC) of SMBus 2.0: CRC-8, polynomial x^8+x^2+x+1, high bit first, start 0.
+#![tactic(auto)]
+
 mod table; // table.rt: what eight bits make of a byte, looked up
 
 ghost use Rattle.std.specs.Prelude.{◌≡◌};

@@ -1,5 +1,7 @@
 // Page records lent as a slice: how many there are and whether all are valid, one record taken out and put back, and the
 // walks over all of them; and choices lent beside them for power-on. No rule is decided here; a record goes to a rule by value and comes back.
+#![tactic(auto)]
+
 ghost use Rattle.std.specs.Prelude.{◌≡◌, ◌&&◌, map, length, get_or, replicate};
 ghost use Rattle.laws.specs.Lists.{any_of};
 ghost use Rattle.page.specs.Page.{power_on_page};

@@ -1,5 +1,7 @@
 // What a host holds against a reply by itself: its length, its packet check, and of an account the count byte and the accumulator.
 // It knows nothing of the device that sent the reply.
+#![tactic(auto)]
+
 ghost use Rattle.std.specs.Prelude.{◌≡◌, ◌+◌, ◌≤◌, eqb, ltb, length, get_or};
 ghost use Rattle.account.specs.Account.{account_of};
 ghost use Rattle.replies.specs.Replies.{clocked_for, reply_check, check_holds, account_answer, reply_answer};

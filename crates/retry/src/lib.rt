@@ -1,5 +1,7 @@
 // The retry machine of one cause, in the byte that a page keeps of it: tries left in bits 5 to 3, ticks left in bits 2 to 0.
 // 0 is at rest, below 8 waiting, 64 tripped; between them it holds its page off, or tries where no ticks are left.
+#![tactic(auto)]
+
 ghost use Rattle.std.specs.Prelude.{◌≡◌, ◌<◌};
 ghost use Rattle.retry.specs.Response.{delay};
 ghost use Rattle.retry.specs.Machine.{hold, look, started, less_one};

@@ -1,4 +1,6 @@
 // Ways between signed and unsigned numbers. Each contract speaks of whole numbers, so that a caller needs no facts of the machine's bits.
+#![tactic(auto)]
+
 ghost use Rattle.std.specs.Prelude.{◌≡◌, ◌*◌, ◌<◌, ◌≤◌, pos, neg_ℤ, nat_abs, ◌+ℤ◌, ◌-ℤ◌, ◌*ℤ◌};
 ghost use Rattle.std.specs.Int.Signed.{lt_z};
 ghost use Rattle.signs.specs.Signs.{with_sign, is_within};

@@ -1,5 +1,7 @@
 // The streaming device's questions to the rules of whole transactions, by value: the reply at the second address byte, and at STOP
 // what the transaction asks for and its answer. All else of a transaction is in crate bus.
+#![tactic(auto)]
+
 ghost use Rattle.std.specs.Prelude.{◌≡◌};
 ghost use Rattle.writes.specs.Asked.{asked};
 ghost use Rattle.writes.specs.Answers.{write_answer};

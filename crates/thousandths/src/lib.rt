@@ -1,5 +1,7 @@
 // Numbers for limits: the word whose value is nearest to a count of thousandths, and the thousandths of a word. Linear11 words and those of
 // the output voltage (VOUT) each have their own pair of functions.
+#![tactic(auto)]
+
 ghost use Rattle.std.specs.Prelude.{◌≡◌};
 ghost use Rattle.thousandths.specs.Conversion.{converted, conversion_of, thousandths_of};
 ghost use Rattle.thousandths.specs.Vout.{vout_conversion_of, vout_thousandths_of};

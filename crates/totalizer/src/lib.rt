@@ -1,5 +1,7 @@
 // The host's totalizer: it adds up energy and samples from the device's energy replies, of which any may be lost, repeated or damaged.
 // It knows nothing of the device but the layout of the reply.
+#![tactic(auto)]
+
 ghost use Rattle.std.specs.Prelude.{◌≡◌, ◌+◌, ◌^◌, ◌<◌, true, false, ◌&&◌, nat_lt};
 ghost use Rattle.account.specs.Account.{account_valid};
 ghost use Rattle.totalizer.specs.Totalizer.{totalizer, answered, fresh_totalizer, gap, added, booked, totalize};

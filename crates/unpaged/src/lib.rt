@@ -1,5 +1,7 @@
 // The unpaged part of the device: PAGE, WRITE_PROTECT, STATUS_CML, the alert and the energy account. Which values are valid,
 // what a refusal leaves, and the answers of the calls that are no transactions.
+#![tactic(auto)]
+
 ghost use Rattle.std.specs.Prelude.{◌≡◌};
 ghost use Rattle.unpaged.specs.Unpaged.{valid_page, valid_protect, unpaged_valid, power_on_unpaged, cml_bits, refused, with_energy, shown};
 

@@ -1,4 +1,6 @@
 // Measured values in both formats of a word, Linear11 and DIRECT, and their exact order, whatever the formats of the two.
+#![tactic(auto)]
+
 ghost use Rattle.std.specs.Prelude.{◌≡◌, true, ◌≤◌, nat_abs};
 ghost use Rattle.value.specs.Value.{Small};
 ghost use Rattle.value.specs.Format.{signed_word, signed_byte, value_of, value_order, format_valid, comparison};

@@ -1,5 +1,7 @@
 // The bench sheet's lines by program (data sheet 14.2), each from power-on: a line of output for each answer.
 // The frames of the sheet are the stored input of the program `bench`.
+#![tactic(auto)]
+
 
 fn line(n: u64) {
     io::print_decimal(1, n);

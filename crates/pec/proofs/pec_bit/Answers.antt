@@ -7,8 +7,7 @@ use lib.Bits.{bit_and, and_high}
 use lib.Pow.{shr_mod}
 use borrow.Author.Tests.{le-ltb, lt-ltb}
 use Rattle.pec.specs.Pec.{pec_bit}
-use Rattle.pec.proofs.pec_bit.Statement.{statement}
-use Rattle.pec.proofs.pec_bit.Tie as tie
+use Rattle.pec.proofs.pec_bit.Goals as goal
 
 top_set : (x : ℕ) → x < 256 → (bit_and x 128 ≡ 0 → ⊥) → 128 ≤ x
 top_set x h f = omega (arith, and_high x 1 7, shr_mod 1 7 h)
@@ -16,15 +15,12 @@ top_set x h f = omega (arith, and_high x 1 7, shr_mod 1 7 h)
 top_clear : (x : ℕ) → x < 256 → bit_and x 128 ≡ 0 → x < 128
 top_clear x h e = omega (arith, and_high x 1 7, shr_mod 1 7 h)
 
-returns : tie.Need-returns
+pub returns-then-x-ne0 : goal.returns-then-x-ne0
 unfolding pec_bit
-returns c = simp (le-ltb _ _ (top_set c.before.args.x c.before.ranges.x.fits c.if1.true))
+returns-then-x-ne0 c = simp (le-ltb _ _ (top_set c.args.x c.ranges.x.fits c.if-x-ne0.true))
 
-returns-2 : tie.Need-returns-2
+pub returns-else-x-ne0 : goal.returns-else-x-ne0
 unfolding pec_bit
-returns-2 c =
-    let h : c.before.args.x < 128 = top_clear c.before.args.x c.before.ranges.x.fits c.if1.false in
+returns-else-x-ne0 c =
+    let h : c.args.x < 128 = top_clear c.args.x c.ranges.x.fits c.if-x-ne0.false in
     simp (lt-ltb _ _ h) (omega arith)
-
-pub pec_bit_spec : {M : Type 1} → statement M
-pec_bit_spec = tie.close (tie.spec returns returns-2)
