@@ -7,7 +7,7 @@ ghost use Rattle.account.specs.Account.{account_valid, added, sampled, energy_re
 
 // Wider than the reply's fields, so that a state handed in may be out of range.
 #[repr(C)]
-#[derive(Drop)]
+#[derive(Clone, Copy)]
 pub struct Account {
     pub accumulator: u16,
     pub rollover: u16,
@@ -15,7 +15,7 @@ pub struct Account {
 }
 
 // The account after a sample, and the answer number.
-#[derive(Drop)]
+#[derive(Clone, Copy)]
 pub struct Sampled {
     pub account: Account,
     pub answer: u8,

@@ -12,7 +12,7 @@ use frame::blocks;
 use libc::{STDERR_FILENO, STDIN_FILENO, STDOUT_FILENO};
 
 // Between two blocks: the state, the number of characters of the line that has no LF yet, and whether there may be more to read.
-#[derive(Drop)]
+#[derive(Clone, Copy)]
 struct Between {
     device: Device,
     length: usize,

@@ -12,7 +12,7 @@ pub mod ack; // ack.rt: ACK and NACK
 // picture). bytes: the first `count` bytes after START, the second address byte among them, no more than eleven. reply: what
 // is sent for the first eight bytes clocked. clocked: how many were clocked, no more than nine.
 #[repr(C)]
-#[derive(Drop)]
+#[derive(Clone, Copy)]
 pub struct Part {
     pub phase: u8,
     pub count: u8,

@@ -2,7 +2,7 @@
 ghost use Rattle.std.specs.Prelude.{◌≡◌};
 ghost use Rattle.command.specs.Meaning.{command_of, setting_of, fault_of, reading_of};
 
-#[derive(Drop)]
+#[derive(Clone, Copy)]
 pub enum Command {
     SelectPage,
     Operation,

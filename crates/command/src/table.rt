@@ -3,7 +3,7 @@ ghost use Rattle.std.specs.Prelude.{◌≡◌, map};
 ghost use Rattle.command.specs.Table.{told, row_in, entry_of, lookup};
 
 // A row: code, access, number of data bytes (a PEC byte not counted).
-#[derive(Drop)]
+#[derive(Clone, Copy)]
 pub struct Row(pub u8, pub u8, pub u8);
 
 // Access: none, where the table has no row; read; written. Both is 3, and 4 is a process call alone, whose data bytes are those written in it.
@@ -58,7 +58,7 @@ const TABLE: [u16; 38] = [
 
 // A row with its access told apart; known is false for a code that the table lacks. A row may be known and yet neither written
 // nor read by itself.
-#[derive(Drop)]
+#[derive(Clone, Copy)]
 pub struct Entry {
     pub written: bool,
     pub read: bool,

@@ -15,7 +15,7 @@ mod steps; // steps.rt: the parts of a call
 pub mod supply; // supply.rt: whether a supply is on
 
 #[repr(C)]
-#[derive(Drop)]
+#[derive(Clone, Copy)]
 pub struct Device {
     pub unpaged: Unpaged,
     pub pages: [Page; 8],
@@ -23,7 +23,7 @@ pub struct Device {
 
 // The state after a call, and the answer number.
 #[repr(C)]
-#[derive(Drop)]
+#[derive(Clone, Copy)]
 pub struct Done {
     pub device: Device,
     pub answer: u8,

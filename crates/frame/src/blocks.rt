@@ -7,7 +7,7 @@ use device::Device;
 
 // After a part of a block: the state, the number of characters of the line that has no LF yet, where the block goes on, and the number of
 // characters of text.
-#[derive(Drop)]
+#[derive(Clone, Copy)]
 pub struct Progress {
     pub device: Device,
     pub length: usize,

@@ -5,7 +5,7 @@ ghost use Rattle.frame.specs.Gather.{up_to, count_of, gathered_of, whole_of};
 
 // Where the block goes on, the number of characters of the line so far, and whether its LF came. A line longer than its buffer counts one
 // more than the buffer.
-#[derive(Drop)]
+#[derive(Clone, Copy)]
 pub struct Gathered {
     pub next: usize,
     pub length: usize,

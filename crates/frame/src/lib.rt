@@ -12,7 +12,7 @@ mod hex; // hex.rt: digits as bytes
 mod text; // text.rt: an answer as text
 
 // The state after a line, and the number of characters of its text.
-#[derive(Drop)]
+#[derive(Clone, Copy)]
 pub struct LineDone {
     pub device: Device,
     pub length: usize,

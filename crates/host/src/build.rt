@@ -10,7 +10,7 @@ const HEADER: usize = 3;
 
 // 0 or why nothing was built; the number of bytes of the frame; and for a read the number of bytes to clock.
 #[repr(C)]
-#[derive(Drop)]
+#[derive(Clone, Copy)]
 pub struct Built {
     pub answer: u8,
     pub length: usize,

@@ -11,7 +11,7 @@ const READ_EIN: u8 = 0x86;
 
 // 0 or what speaks against the reply; and what it says: a byte, a word or an account. The other fields are 0, and under a refusal all are.
 #[repr(C)]
-#[derive(Drop)]
+#[derive(Clone, Copy)]
 pub struct Reply {
     pub answer: u8,
     pub byte: u8,

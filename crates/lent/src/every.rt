@@ -9,7 +9,7 @@ use page::Page;
 use writes::Write;
 
 // A record after the write, and whether a status bit rose on it or on one before it.
-#[derive(Drop)]
+#[derive(Clone, Copy)]
 pub struct Changed {
     pub page: Page,
     pub rose: bool,

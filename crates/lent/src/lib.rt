@@ -20,7 +20,7 @@ pub mod turns; // turns.rt: what a call decides, by value
 
 // The unpaged part after a call, and the answer number.
 #[repr(C)]
-#[derive(Drop)]
+#[derive(Clone, Copy)]
 pub struct Outcome {
     pub unpaged: Unpaged,
     pub answer: u8,

@@ -21,7 +21,7 @@ use writes::answers::Judged;
 
 // What a write or a measurement leaves: the record, and the unpaged part with its answer. Whether the write is still to be
 // made on every record, and whether the alert, after a clearing, is still to be worked out from all.
-#[derive(Drop)]
+#[derive(Clone, Copy)]
 pub struct Turn {
     pub outcome: Outcome,
     pub page: Page,
@@ -30,7 +30,7 @@ pub struct Turn {
 }
 
 // What a read or an alert response leaves, and the bytes that it sends.
-#[derive(Drop)]
+#[derive(Clone, Copy)]
 pub struct Sending {
     pub outcome: Outcome,
     pub stream: Stream,

@@ -145,7 +145,7 @@ fn moved(p: Page, fault: [bool; 6], machines: [u8; 6]) -> Page
 }
 
 // What bringing a page up to date changes of it: eleven bytes of fifty-six.
-#[derive(Drop)]
+#[derive(Clone, Copy)]
 pub struct Update {
     pub machines: [u8; 6],
     pub status: [u8; 4],

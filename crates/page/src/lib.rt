@@ -20,7 +20,7 @@ pub mod status; // status.rt: STATUS_BYTE, STATUS_WORD and whether the page supp
 // Formats: 0 IOUT, 1 VIN, 2 temperature. VOUT has none.
 // Status: 0 STATUS_VOUT, 1 STATUS_IOUT, 2 STATUS_INPUT, 3 STATUS_TEMPERATURE.
 #[repr(C)]
-#[derive(Drop)]
+#[derive(Clone, Copy)]
 pub struct Page {
     pub operation: u8,
     pub command: u16,
@@ -36,7 +36,7 @@ pub struct Page {
 
 // What is chosen for a page at power-on: formats as in a page, and fault limits by cause, of which those of DIRECT quantities count.
 #[repr(C)]
-#[derive(Drop)]
+#[derive(Clone, Copy)]
 pub struct PageChoice {
     pub formats: [Format; 3],
     pub limits: [u16; 6],

@@ -3,7 +3,7 @@ ghost use Rattle.std.specs.Prelude.{◌≡◌, length};
 ghost use Rattle.reads.specs.Reply.{byte_of, reply_of, stream, stream_of, alert_stream};
 
 // The bytes to send: the first `length` of `bytes`.
-#[derive(Drop)]
+#[derive(Clone, Copy)]
 pub struct Stream {
     pub bytes: [u8; 8],
     pub length: u8,

@@ -7,7 +7,7 @@ use command::Entry;
 use writes::bytes::byte_at;
 
 // A new form of a header is a variant more, behind these.
-#[derive(Drop)]
+#[derive(Clone, Copy)]
 pub enum Request {
     // no header, or one whose code is not read: the answer that it gets
     Refused(u8),

@@ -15,7 +15,7 @@ use value::format::Format;
 
 // What a call has to know of all records before it begins: how many there are, 97 standing for every number above 96, and
 // whether each is valid. More than 96 are not looked at, and do not count as valid.
-#[derive(Drop)]
+#[derive(Clone, Copy)]
 pub struct Seen {
     pub number: u8,
     pub valid: bool,

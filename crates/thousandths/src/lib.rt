@@ -23,7 +23,7 @@ const VOUT_HIGHEST: i64 = 7999;
 
 // The answer number, and the word under answer 0.
 #[repr(C)]
-#[derive(Drop)]
+#[derive(Clone, Copy)]
 pub struct Converted {
     pub answer: u8,
     pub word: u16,

@@ -7,7 +7,7 @@ ghost use Rattle.thousandths.specs.Conversion.{unit, start, spot, rounded, word_
 const MOVED_UP: u64 = 2199023255552000;
 
 // A word, and how far its value is from the place.
-#[derive(Drop)]
+#[derive(Clone, Copy)]
 pub struct Found {
     pub word: u16,
     pub gap: u64,

@@ -17,7 +17,7 @@ pub extern "C" fn tongsorrel_power_on() -> Device
 
 // What is chosen for each page at power-on.
 #[repr(C)]
-#[derive(Drop)]
+#[derive(Clone, Copy)]
 pub struct Choices {
     pub pages: [PageChoice; 8],
 }

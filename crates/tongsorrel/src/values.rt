@@ -54,7 +54,7 @@ pub extern "C" fn tongsorrel_linear11_compare(a: u16, b: u16) -> u8
 
 // An answer, and how one value stands to another as a number.
 #[repr(C)]
-#[derive(Drop)]
+#[derive(Clone, Copy)]
 pub struct Compared {
     pub answer: u8,
     pub order: u8,

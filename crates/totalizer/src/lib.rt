@@ -10,7 +10,7 @@ ghost use Rattle.totalizer.specs.Totalizer.{totalizer, answered, fresh_totalizer
 const ACCOUNT_BYTES: u8 = 7;
 
 #[repr(C)]
-#[derive(Drop)]
+#[derive(Clone, Copy)]
 pub struct Totalizer {
     // A reply has been accepted.
     pub started: bool,
@@ -25,7 +25,7 @@ pub struct Totalizer {
 
 // The totalizer after a reply, and the answer number.
 #[repr(C)]
-#[derive(Drop)]
+#[derive(Clone, Copy)]
 pub struct Taken {
     pub totalizer: Totalizer,
     pub answer: u8,

@@ -10,7 +10,7 @@ use account::Account;
 pub mod events; // events.rt: the answers of measurements and alert responses
 
 #[repr(C)]
-#[derive(Drop)]
+#[derive(Clone, Copy)]
 pub struct Unpaged {
     pub page: u8,
     pub protect: u8,

@@ -8,7 +8,7 @@ use linear11::Order;
 
 // m and b are words, r is a byte, all in two's complement.
 #[repr(C)]
-#[derive(Drop)]
+#[derive(Clone, Copy)]
 pub struct Format {
     pub direct: bool,
     pub m: u16,

@@ -42,7 +42,7 @@ fn value_of(f: Format, w: u16) -> Ratio
 }
 
 // An answer, and how the first value stands to the second.
-#[derive(Drop)]
+#[derive(Clone, Copy)]
 pub struct Compared {
     pub answer: u8,
     pub order: Order,

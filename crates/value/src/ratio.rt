@@ -7,14 +7,14 @@ ghost use Rattle.value.specs.Value.{ratio_order, Small, linear_num, linear_den, 
 use linear11::Order;
 
 // The value num / den.
-#[derive(Drop)]
+#[derive(Clone, Copy)]
 pub struct Ratio {
     pub num: i64,
     pub den: u64,
 }
 
 // A product in two parts.
-#[derive(Drop)]
+#[derive(Clone, Copy)]
 struct Wide {
     high: u64,
     low: u64,

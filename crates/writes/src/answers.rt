@@ -108,7 +108,7 @@ fn form_answer(s: &[u8]) -> u8
 }
 
 // The answer of a write, and what it asks for where it is accepted.
-#[derive(Drop)]
+#[derive(Clone, Copy)]
 pub struct Judged {
     pub answer: u8,
     pub write: Write,

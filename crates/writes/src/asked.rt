@@ -6,7 +6,7 @@ use super::bytes;
 use command::Command;
 
 // One setting of a page.
-#[derive(Drop)]
+#[derive(Clone, Copy)]
 pub enum Setting {
     Operation(u8),
     VoutCommand(u16),
@@ -16,7 +16,7 @@ pub enum Setting {
 }
 
 // The status bits to clear, by register.
-#[derive(Drop)]
+#[derive(Clone, Copy)]
 pub struct Masks {
     pub vout: u8,
     pub iout: u8,
@@ -25,7 +25,7 @@ pub struct Masks {
     pub cml: u8,
 }
 
-#[derive(Drop)]
+#[derive(Clone, Copy)]
 pub enum Write {
     // a code that is never written
     Nothing,
