@@ -22,14 +22,31 @@ test : (c : Start) → is_within lowest highest (to_z w64 (of_z w64 c.args.count
     ≡ is_within lowest highest c.args.count
 test c = ap (is_within lowest highest) (read c)
 
+read_at_then_is_within : (c : Then-is_within) → to_z w64 (of_z w64 c.args.count) ≡ c.args.count
+read_at_then_is_within c = to_z-of_z w64 c.args.count c.ranges.count
+
+test_at_then_is_within : (c : Then-is_within) → is_within lowest highest (to_z w64 (of_z w64 c.args.count))
+    ≡ is_within lowest highest c.args.count
+test_at_then_is_within c = ap (is_within lowest highest) (read_at_then_is_within c)
+
 lies : (c : Then-is_within) → is_within lowest highest c.args.count ≡ true
-lies c = sym (test c) ∙ sym c.is_Within.ensures ∙ c.if-is_within.true
+lies c = sym (test_at_then_is_within c) ∙ sym c.is_within.ensures ∙ c.if-is_within.true
+
+read_at_after_raise_raised : (c : After-raise-raised) → to_z w64 (of_z w64 c.args.count) ≡ c.args.count
+read_at_after_raise_raised c = to_z-of_z w64 c.args.count c.ranges.count
 
 moved : (c : After-raise-raised) → c.raise-raised.result ≡ nat_abs (c.args.count +ℤ pos 33554432000)
-moved c = c.raise-raised.ensures ∙ ap (λ (z : ℤ). nat_abs (z +ℤ pos 33554432000)) (read c)
+moved c = c.raise-raised.ensures ∙ ap (λ (z : ℤ). nat_abs (z +ℤ pos 33554432000)) (read_at_after_raise_raised c)
+
+test_at_after_raise_raised : (c : After-raise-raised) → is_within lowest highest (to_z w64 (of_z w64 c.args.count))
+    ≡ is_within lowest highest c.args.count
+test_at_after_raise_raised c = ap (is_within lowest highest) (read_at_after_raise_raised c)
+
+lies_at_after_raise_raised : (c : After-raise-raised) → is_within lowest highest c.args.count ≡ true
+lies_at_after_raise_raised c = sym (test_at_after_raise_raised c) ∙ sym c.is_within.ensures ∙ c.if-is_within.true
 
 size : (c : After-raise-raised) → c.raise-raised.result ≤ 67076096000
-size c = omega (arith, moved c, moved-small c.args.count (lies c))
+size c = omega (arith, moved c, moved-small c.args.count (lies_at_after_raise_raised c))
 
 pub is_within-requires : goal.is_within-requires
 is_within-requires c = search rules
@@ -58,4 +75,4 @@ out_of_range-requires c = search rules
 pub returns : goal.returns
 unfolding conversion_of
 returns c =
-    rw (sym (test (goal.at.returns c).Start) ∙ sym c.is_Within.ensures ∙ c.if-is_within.false) c.out_of_range.ensures
+    rw (sym (test (goal.at.returns c).Start) ∙ sym c.is_within.ensures ∙ c.if-is_within.false) c.out_of_range.ensures

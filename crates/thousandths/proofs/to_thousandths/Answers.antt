@@ -23,8 +23,11 @@ scaled c = to_z-of_z w64 c.scaled-z.result (search rules) ∙ c.scaled-z.ensures
 bound : (c : After-scaled-z) → nat_abs (scaled_of c.args.word) ≤ 2199023255552
 bound c = scaled_size c.args.word c.ranges.word.fits
 
+scaled_at_after_size : (c : After-size) → to_z w64 (of_z w64 c.scaled-z.result) ≡ scaled_of c.args.word
+scaled_at_after_size c = to_z-of_z w64 c.scaled-z.result (search rules) ∙ c.scaled-z.ensures
+
 sized : (c : After-size) → c.size.result ≡ nat_abs (scaled_of c.args.word)
-sized c = c.size.ensures ∙ ap nat_abs (scaled c)
+sized c = c.size.ensures ∙ ap nat_abs (scaled_at_after_size c)
 
 pub scaled-z-requires : goal.scaled-z-requires
 scaled-z-requires c = search rules

@@ -22,14 +22,29 @@ read c = to_z-of_z w64 c.args.count c.ranges.count
 test : (c : Start) → is_within (pos 0) vout_highest (to_z w64 (of_z w64 c.args.count)) ≡ is_within (pos 0) vout_highest c.args.count
 test c = ap (is_within (pos 0) vout_highest) (read c)
 
+read_at_then_is_within : (c : Then-is_within) → to_z w64 (of_z w64 c.args.count) ≡ c.args.count
+read_at_then_is_within c = to_z-of_z w64 c.args.count c.ranges.count
+
+test_at_then_is_within : (c : Then-is_within) → is_within (pos 0) vout_highest (to_z w64 (of_z w64 c.args.count)) ≡ is_within (pos 0) vout_highest c.args.count
+test_at_then_is_within c = ap (is_within (pos 0) vout_highest) (read_at_then_is_within c)
+
 lies : (c : Then-is_within) → is_within (pos 0) vout_highest c.args.count ≡ true
-lies c = sym (test c) ∙ sym c.is_Within.ensures ∙ c.if-is_within.true
+lies c = sym (test_at_then_is_within c) ∙ sym c.is_within.ensures ∙ c.if-is_within.true
+
+read_at_after_size_n : (c : After-size-n) → to_z w64 (of_z w64 c.args.count) ≡ c.args.count
+read_at_after_size_n c = to_z-of_z w64 c.args.count c.ranges.count
 
 sized : (c : After-size-n) → c.size-n.result ≡ nat_abs c.args.count
-sized c = c.size-n.ensures ∙ ap nat_abs (read c)
+sized c = c.size-n.ensures ∙ ap nat_abs (read_at_after_size_n c)
+
+test_at_after_size_n : (c : After-size-n) → is_within (pos 0) vout_highest (to_z w64 (of_z w64 c.args.count)) ≡ is_within (pos 0) vout_highest c.args.count
+test_at_after_size_n c = ap (is_within (pos 0) vout_highest) (read_at_after_size_n c)
+
+lies_at_after_size_n : (c : After-size-n) → is_within (pos 0) vout_highest c.args.count ≡ true
+lies_at_after_size_n c = sym (test_at_after_size_n c) ∙ sym c.is_within.ensures ∙ c.if-is_within.true
 
 small : (c : After-size-n) → c.size-n.result ≤ 7999
-small c = omega (arith, sized c, vout-small c.args.count (lies c))
+small c = omega (arith, sized c, vout-small c.args.count (lies_at_after_size_n c))
 
 pub is_within-requires : goal.is_within-requires
 is_within-requires c = search rules
@@ -60,4 +75,4 @@ out_of_range-requires c = search rules
 pub returns : goal.returns
 unfolding vout_conversion_of
 returns c =
-    rw (sym (test (goal.at.returns c).Start) ∙ sym c.is_Within.ensures ∙ c.if-is_within.false) c.out_of_range.ensures
+    rw (sym (test (goal.at.returns c).Start) ∙ sym c.is_within.ensures ∙ c.if-is_within.false) c.out_of_range.ensures
