@@ -1,0 +1,15 @@
+-- `host::build::read_form` meets its contract.
+-- Assumes nothing.
+use mathlib.Core.Path.{refl}
+use Rattle.laws.proofs.Branches.{pick_yes, pick_no}
+use Rattle.host.proofs.build.read_form.Goals as goal
+
+pub returns-then-not-e : goal.returns-then-not-e
+returns-then-not-e c =
+    let e = c.args.e in
+    pick_no _ _ _ e.read c.if-not-e.true refl
+
+pub returns : goal.returns
+returns c =
+    let e = c.args.e in
+    pick_yes _ _ _ e.read c.if-not-e.false refl

@@ -1,0 +1,105 @@
+-- `host::build::write` meets its contract.
+-- Assumes nothing.
+use Prim.Native.Nat.{ℕ, ◌+◌, ◌≤◌}
+use mathlib.Core.Path.{◌≡◌, sym, ap, ◌∙◌}
+use native.Mathlib.Omega.{arith}
+use lib.Dec.{leb}
+use lib.ListN.{length, length-take, length-drop}
+use borrow.Author.Tests.{leb-true}
+use borrow.Author.Rules.{rules}
+use Rattle.command.specs.declared.table.Entry.{Entry}
+use Rattle.replies.specs.Replies.{clocked_for}
+use Rattle.host.specs.Build.{write_frame, read_count, row_write_form, write_form, built, write_built}
+use Rattle.host.proofs.Frames.{ends-form, ends-room, ends-done, built-length}
+use Rattle.host.proofs.build.write.Goals as goal
+
+pub lookup-e-requires : goal.lookup-e-requires
+lookup-e-requires c = search rules
+
+pub write_form-form-requires : goal.write_form-form-requires
+write_form-form-requires c = search rules
+
+pub made-requires : goal.made-requires
+made-requires c = search rules
+
+pub returns-then-form-ne-DONE : goal.returns-then-form-ne-DONE
+unfolding write_built write_form read_count
+returns-then-form-ne-DONE c =
+    let a = c.args in
+    let f = c.write_form-form.ensures ∙ ap (λ (e : Entry). row_write_form e (length a.bytes.now)) c.lookup-e.ensures in
+    ends-form (write_form a.code (length a.bytes.now)) a.place 0 (write_frame a.code a.bytes.now a.check) a.buffer.now
+    c.made.result (λ z. c.if-form-ne-DONE.true (f ∙ z)) (c.made.ensures ∙ ap (λ (x : ℕ). built x 0 0) f)
+
+pub clocked_for-n-requires : goal.clocked_for-n-requires
+clocked_for-n-requires c = search rules
+
+pub overflow_add-n : goal.overflow_add-n
+overflow_add-n c = search rules
+
+pub fits-requires : goal.fits-requires
+fits-requires c = search rules
+
+pub made-requires-then-not-fits : goal.made-requires-then-not-fits
+made-requires-then-not-fits c = search rules
+
+pub returns-then-not-fits : goal.returns-then-not-fits
+unfolding write_built write_form read_count
+returns-then-not-fits c =
+    let a = c.args in
+    let frame = write_frame a.code a.bytes.now a.check in
+    let form = sym (c.write_form-form.ensures ∙ ap (λ (e : Entry). row_write_form e (length a.bytes.now)) c.lookup-e.ensures) ∙ c.if-form-ne-DONE.false in
+    let n = built-length a.code a.bytes.now a.check form ∙ ap (◌+◌ 2) (sym (c.clocked_for-n.ensures.0 ∙ ap (λ (e : Entry). clocked_for e.length a.check) c.lookup-e.ensures)) in
+    let over = sym c.fits2.ensures ∙ c.if-not-fits.true in
+    ends-room (write_form a.code (length a.bytes.now)) a.place 0 frame a.buffer.now c.made-then-not-fits.result form
+    (ap (λ (x : ℕ). leb (a.place + x) (length a.buffer.now)) n ∙ over) c.made-then-not-fits.ensures
+
+pub overflow_add-end : goal.overflow_add-end
+overflow_add-end c =
+    let a = c.args in
+    let h : a.place + (2 + c.clocked_for-n.result) ≤ length a.buffer.now =
+    leb-true _ _ (sym c.fits2.ensures ∙ c.if-not-fits.false) in
+    omega arith
+
+pub slice_bounds-put_write-count : goal.slice_bounds-put_write-count
+slice_bounds-put_write-count c = search rules
+
+pub slice_bounds-put_write-start : goal.slice_bounds-put_write-start
+slice_bounds-put_write-start c = search rules
+
+pub slice_bounds-put_write-end : goal.slice_bounds-put_write-end
+slice_bounds-put_write-end c =
+    let a = c.args in
+    let h : a.place + (2 + c.clocked_for-n.result) ≤ length a.buffer.now =
+    leb-true _ _ (sym c.fits2.ensures ∙ c.if-not-fits.false) in
+    omega arith
+
+pub put_write-requires : goal.put_write-requires
+unfolding write_form read_count
+put_write-requires c =
+    let a = c.args in
+    let n = built-length a.code a.bytes.now a.check (sym (c.write_form-form.ensures ∙ ap (λ (e : Entry). row_write_form e (length a.bytes.now)) c.lookup-e.ensures) ∙ c.if-form-ne-DONE.false) in
+    let k : c.clocked_for-n.result ≡ read_count a.code a.check = c.clocked_for-n.ensures.0 ∙ ap (λ (e : Entry). clocked_for e.length a.check) c.lookup-e.ensures in
+    let h : a.place + (2 + c.clocked_for-n.result) ≤ length a.buffer.now =
+    leb-true _ _ (sym c.fits2.ensures ∙ c.if-not-fits.false) in
+    simp (length-take, length-drop) (omega arith)
+
+pub made-requires-2 : goal.made-requires-2
+made-requires-2 c = search rules
+
+pub shape_of-buffer : goal.shape_of-buffer
+shape_of-buffer c = search rules
+
+pub returns : goal.returns
+unfolding write_built write_form read_count
+returns c =
+    let a = c.args in
+    let frame = write_frame a.code a.bytes.now a.check in
+    let form = sym (c.write_form-form.ensures ∙ ap (λ (e : Entry). row_write_form e (length a.bytes.now)) c.lookup-e.ensures) ∙ c.if-form-ne-DONE.false in
+    let k : c.clocked_for-n.result ≡ read_count a.code a.check = c.clocked_for-n.ensures.0 ∙ ap (λ (e : Entry). clocked_for e.length a.check) c.lookup-e.ensures in
+    let n = built-length a.code a.bytes.now a.check form in
+    let m = n ∙ ap (◌+◌ 2) (sym k) in
+    let fits = sym c.fits2.ensures ∙ c.if-not-fits.false in
+    ends-done (write_form a.code (length a.bytes.now)) a.place 0 frame a.buffer.now c.made-2.result form
+    (ap (λ (x : ℕ). leb (a.place + x) (length a.buffer.now)) m ∙ fits)
+    (c.made-2.ensures ∙ ap (λ (x : ℕ). built 0 x 0) (ap (◌+◌ 2) k ∙ sym n))
+    _ c.put_write.new.0 (ap (◌+◌ a.place) m) c.put_write.ensures
