@@ -4,15 +4,8 @@ use mathlib.Core.Path.{sym}
 use native.Mathlib.Omega.{arith}
 use lib.ListN.{length-take}
 use lib.Seq.{length-take-le}
-use borrow.Author.Rules.{rules}
 use Rattle.host.proofs.Places.{checked-length, checked-end}
 use Rattle.host.proofs.build.put_checked.Goals as goal
-
-pub overflow_sub-n : goal.overflow_sub-n
-overflow_sub-n c = search rules
-
-pub slice_bounds-put_plain-end : goal.slice_bounds-put_plain-end
-slice_bounds-put_plain-end c = search rules
 
 pub slice_bounds-put_plain-end-2 : goal.slice_bounds-put_plain-end-2
 slice_bounds-put_plain-end-2 c = let a = c.args in sym (length-take-le _ a.out.now (omega arith))
@@ -20,24 +13,12 @@ slice_bounds-put_plain-end-2 c = let a = c.args in sym (length-take-le _ a.out.n
 pub put_plain-requires : goal.put_plain-requires
 put_plain-requires c = simp length-take (omega arith)
 
-pub slice_bounds-pec-end : goal.slice_bounds-pec-end
-slice_bounds-pec-end c = search rules
-
 pub slice_bounds-pec-end-2 : goal.slice_bounds-pec-end-2
 slice_bounds-pec-end-2 c =
     let a = c.args in
     let p = c.put-plain in
     let pre = c.requires in
     checked-length a.out.now a.bytes.now p.new.0 a.code 0 pre p.ensures
-
-pub pec-requires : goal.pec-requires
-pec-requires c = search rules
-
-pub bounds-out-n : goal.bounds-out-n
-bounds-out-n c = search rules
-
-pub shape_of-out : goal.shape_of-out
-shape_of-out c = search rules
 
 pub returns : goal.returns
 returns c =

@@ -3,13 +3,9 @@
 use mathlib.Core.Path.{ap, ◌∙◌}
 use native.Mathlib.Omega.{arith}
 use lib.ListN.{length, length-set, length-drop, length-take}
-use borrow.Author.Rules.{rules}
 use Rattle.host.specs.Build.{write_frame}
 use Rattle.host.proofs.Places.{plain_end}
 use Rattle.host.proofs.build.put_plain.Goals as goal
-
-pub bounds-out-0 : goal.bounds-out-0
-bounds-out-0 c = search rules
 
 pub bounds-out-1 : goal.bounds-out-1
 bounds-out-1 c = simp length-set (omega arith)
@@ -19,9 +15,6 @@ slice_bounds-copy-count c = simp length-set (omega arith)
 
 pub slice_bounds-copy-start : goal.slice_bounds-copy-start
 slice_bounds-copy-start c = simp length-set (omega arith)
-
-pub slice_bounds-copy-end : goal.slice_bounds-copy-end
-slice_bounds-copy-end c = search rules
 
 pub copy-requires : goal.copy-requires
 copy-requires c = simp (length-take, length-drop, length-set) (omega arith)

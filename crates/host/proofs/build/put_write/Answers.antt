@@ -4,7 +4,6 @@ use mathlib.Core.Path.{◌≡◌, ap, ◌∙◌}
 use mathlib.Core.Bool.{Bool, true, false}
 use native.Mathlib.Omega.{arith}
 use lib.ListN.{length}
-use borrow.Author.Rules.{rules}
 use Rattle.replies.specs.Replies.{clocked_for}
 use Rattle.host.specs.Build.{write_frame}
 use Rattle.host.proofs.Frames.{frame_length}
@@ -18,9 +17,6 @@ put_checked-requires c =
     c.requires ∙ ap (λ (b : Bool). length (write_frame a.code a.bytes.now b)) c.if-check.true in
     e ∙ frame_length a.code a.bytes.now true ∙ omega arith
 
-pub shape_of-out-then-check : goal.shape_of-out-then-check
-shape_of-out-then-check c = search rules
-
 pub returns-then-check : goal.returns-then-check
 returns-then-check c = rw c.if-check.true c.put_checked.ensures
 
@@ -31,9 +27,6 @@ put_plain-requires c =
     let e : length a.out.now ≡ length (write_frame a.code a.bytes.now false) =
     c.requires ∙ ap (λ (b : Bool). length (write_frame a.code a.bytes.now b)) c.if-check.false in
     e ∙ frame_length a.code a.bytes.now false ∙ omega arith
-
-pub shape_of-out : goal.shape_of-out
-shape_of-out c = search rules
 
 pub returns : goal.returns
 returns c = rw c.if-check.false c.put_plain.ensures

@@ -5,21 +5,11 @@ use mathlib.Core.Path.{refl, sym, ap, ◌∙◌}
 use native.Mathlib.Omega.{arith}
 use lib.ListN.{length}
 use borrow.Author.Tests.{leb-true}
-use borrow.Author.Rules.{rules}
 use Rattle.command.specs.declared.table.Entry.{Entry}
 use Rattle.replies.specs.Replies.{read_header, clocked_for}
 use Rattle.host.specs.Build.{read_count, row_read_form, read_form, built, read_built}
 use Rattle.host.proofs.Frames.{ends-form, ends-room, ends-done}
 use Rattle.host.proofs.build.read.Goals as goal
-
-pub lookup-e-requires : goal.lookup-e-requires
-lookup-e-requires c = search rules
-
-pub read_form-form-requires : goal.read_form-form-requires
-read_form-form-requires c = search rules
-
-pub made-requires : goal.made-requires
-made-requires c = search rules
 
 pub returns-then-form-ne-DONE : goal.returns-then-form-ne-DONE
 unfolding read_built read_form read_count
@@ -29,12 +19,6 @@ returns-then-form-ne-DONE c =
     ends-form (read_form a.code) a.place (read_count a.code a.check) (read_header a.code) a.buffer.now c.made.result
     (λ z. c.if-form-ne-DONE.true (f ∙ z)) (c.made.ensures ∙ ap (λ (x : ℕ). built x 0 0) f)
 
-pub fits-requires : goal.fits-requires
-fits-requires c = search rules
-
-pub made-requires-then-not-fits : goal.made-requires-then-not-fits
-made-requires-then-not-fits c = search rules
-
 pub returns-then-not-fits : goal.returns-then-not-fits
 unfolding read_built read_form read_count
 returns-then-not-fits c =
@@ -43,9 +27,6 @@ returns-then-not-fits c =
     ends-room (read_form a.code) a.place (read_count a.code a.check) (read_header a.code) a.buffer.now c.made-then-not-fits.result form
     (sym c.fits2.ensures ∙ c.if-not-fits.true) c.made-then-not-fits.ensures
 
-pub clocked_for-n-requires : goal.clocked_for-n-requires
-clocked_for-n-requires c = search rules
-
 pub overflow_add-end : goal.overflow_add-end
 overflow_add-end c =
     let a = c.args in
@@ -53,27 +34,12 @@ overflow_add-end c =
     leb-true _ _ (sym c.fits2.ensures ∙ c.if-not-fits.false) in
     omega arith
 
-pub slice_bounds-put_header-count : goal.slice_bounds-put_header-count
-slice_bounds-put_header-count c = search rules
-
-pub slice_bounds-put_header-start : goal.slice_bounds-put_header-start
-slice_bounds-put_header-start c = search rules
-
 pub slice_bounds-put_header-end : goal.slice_bounds-put_header-end
 slice_bounds-put_header-end c =
     let a = c.args in
     let h : a.place + 3 ≤ length a.buffer.now =
     leb-true _ _ (sym c.fits2.ensures ∙ c.if-not-fits.false) in
     omega arith
-
-pub put_header-requires : goal.put_header-requires
-put_header-requires c = search rules
-
-pub made-requires-2 : goal.made-requires-2
-made-requires-2 c = search rules
-
-pub shape_of-buffer : goal.shape_of-buffer
-shape_of-buffer c = search rules
 
 pub returns : goal.returns
 unfolding read_built read_form read_count

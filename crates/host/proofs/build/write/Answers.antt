@@ -6,21 +6,11 @@ use native.Mathlib.Omega.{arith}
 use lib.Dec.{leb}
 use lib.ListN.{length, length-take, length-drop}
 use borrow.Author.Tests.{leb-true}
-use borrow.Author.Rules.{rules}
 use Rattle.command.specs.declared.table.Entry.{Entry}
 use Rattle.replies.specs.Replies.{clocked_for}
 use Rattle.host.specs.Build.{write_frame, read_count, row_write_form, write_form, built, write_built}
 use Rattle.host.proofs.Frames.{ends-form, ends-room, ends-done, built-length}
 use Rattle.host.proofs.build.write.Goals as goal
-
-pub lookup-e-requires : goal.lookup-e-requires
-lookup-e-requires c = search rules
-
-pub write_form-form-requires : goal.write_form-form-requires
-write_form-form-requires c = search rules
-
-pub made-requires : goal.made-requires
-made-requires c = search rules
 
 pub returns-then-form-ne-DONE : goal.returns-then-form-ne-DONE
 unfolding write_built write_form read_count
@@ -29,18 +19,6 @@ returns-then-form-ne-DONE c =
     let f = c.write_form-form.ensures ∙ ap (λ (e : Entry). row_write_form e (length a.bytes.now)) c.lookup-e.ensures in
     ends-form (write_form a.code (length a.bytes.now)) a.place 0 (write_frame a.code a.bytes.now a.check) a.buffer.now
     c.made.result (λ z. c.if-form-ne-DONE.true (f ∙ z)) (c.made.ensures ∙ ap (λ (x : ℕ). built x 0 0) f)
-
-pub clocked_for-n-requires : goal.clocked_for-n-requires
-clocked_for-n-requires c = search rules
-
-pub overflow_add-n : goal.overflow_add-n
-overflow_add-n c = search rules
-
-pub fits-requires : goal.fits-requires
-fits-requires c = search rules
-
-pub made-requires-then-not-fits : goal.made-requires-then-not-fits
-made-requires-then-not-fits c = search rules
 
 pub returns-then-not-fits : goal.returns-then-not-fits
 unfolding write_built write_form read_count
@@ -60,12 +38,6 @@ overflow_add-end c =
     leb-true _ _ (sym c.fits2.ensures ∙ c.if-not-fits.false) in
     omega arith
 
-pub slice_bounds-put_write-count : goal.slice_bounds-put_write-count
-slice_bounds-put_write-count c = search rules
-
-pub slice_bounds-put_write-start : goal.slice_bounds-put_write-start
-slice_bounds-put_write-start c = search rules
-
 pub slice_bounds-put_write-end : goal.slice_bounds-put_write-end
 slice_bounds-put_write-end c =
     let a = c.args in
@@ -82,12 +54,6 @@ put_write-requires c =
     let h : a.place + (2 + c.clocked_for-n.result) ≤ length a.buffer.now =
     leb-true _ _ (sym c.fits2.ensures ∙ c.if-not-fits.false) in
     simp (length-take, length-drop) (omega arith)
-
-pub made-requires-2 : goal.made-requires-2
-made-requires-2 c = search rules
-
-pub shape_of-buffer : goal.shape_of-buffer
-shape_of-buffer c = search rules
 
 pub returns : goal.returns
 unfolding write_built write_form read_count

@@ -1,7 +1,6 @@
 -- `host::build::write_form` meets its contract.
 -- Assumes nothing.
 use mathlib.Core.Path.{refl}
-use borrow.Author.Rules.{rules}
 use Rattle.laws.proofs.Branches.{pick_yes, pick_no}
 use Rattle.host.proofs.build.write_form.Goals as goal
 
@@ -9,9 +8,6 @@ pub returns-then-not-e : goal.returns-then-not-e
 returns-then-not-e c =
     let e = c.args.e in
     pick_no _ _ _ e.written c.if-not-e.true refl
-
-pub number_answer-requires : goal.number_answer-requires
-number_answer-requires c = search rules
 
 pub returns : goal.returns
 returns c =

@@ -1,7 +1,6 @@
 -- `host::parse::parse_answer` meets its contract.
 -- Assumes nothing.
 use mathlib.Core.Path.{refl}
-use borrow.Author.Rules.{rules}
 use Rattle.laws.proofs.Branches.{pick_yes, pick_no}
 use Rattle.host.proofs.parse.parse_answer.Goals as goal
 
@@ -9,12 +8,6 @@ pub returns-then-not-e : goal.returns-then-not-e
 returns-then-not-e c =
     let e = c.args.e in
     pick_no _ _ _ e.read c.if-not-e.true refl
-
-pub is_account-requires : goal.is_account-requires
-is_account-requires c = search rules
-
-pub reply_answer-requires : goal.reply_answer-requires
-reply_answer-requires c = search rules
 
 pub returns : goal.returns
 returns c =

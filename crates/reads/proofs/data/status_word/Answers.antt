@@ -1,0 +1,7 @@
+-- `reads::data::status_word` meets its contract.
+-- Assumes nothing.
+use borrow.Author.Rules.{rules}
+use Rattle.reads.proofs.data.status_word.Goals as goal
+
+pub returns : goal.returns
+returns c = (simp (c.two.ensures.0, (goal.at.returns c).After-status_word-w.«status-word».ensures), search rules)
