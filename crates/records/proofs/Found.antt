@@ -2,12 +2,11 @@
 -- Assumes nothing.
 use Prim.Native.Nat.{ℕ, ◌+◌, ◌<◌, ◌≤◌}
 use mathlib.Core.Path.{◌≡◌, refl, sym, ◌∙◌}
-use mathlib.Core.Bool.{Bool, true, false, not, ◌&&◌, ◌||◌, or-false}
+use mathlib.Core.Bool.{Bool, true, false, ◌&&◌, ◌||◌, or-false}
 use mathlib.Core.List.{List}
 use native.Mathlib.Numerals.{add-one}
 use lib.ListN.{length, get_or, drop, drop_of_length-le}
 use lib.Seq.{drop-cons}
-use lib.Dec.{T}
 use Rattle.laws.specs.Lists.{any_of}
 
 pub or_assoc : (a b c : Bool) → ((a || b) || c) ≡ (a || (b || c))
@@ -22,10 +21,8 @@ module _ {A : Type 0} (p : A → Bool) (d : A) (l : List A) where
   found_end c i h inv = sym (or-false c) ∙ (rw (drop_of_length-le l h) at inv)
 
 -- what is not wanted, and what is
-pub unwanted : (w x : Bool) → T (not w) → false ≡ (w && x)
-unwanted true x t = absurd t
-unwanted false x t = refl
+pub unwanted : (w x : Bool) → w ≡ false → false ≡ (w && x)
+unwanted w x t = rw t
 
-pub wanted : (w x : Bool) → T (not (not w)) → x ≡ (w && x)
-wanted true x t = refl
-wanted false x t = absurd t
+pub wanted : (w x : Bool) → w ≡ true → x ≡ (w && x)
+wanted w x t = rw t

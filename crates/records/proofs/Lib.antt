@@ -1,11 +1,3 @@
-pub mod Again
-pub mod Reshare
-pub mod Walk
-pub mod Lent
-pub mod Calls
-pub mod Paged
 pub mod Found
 pub mod Bounded
-pub mod Chosen
-pub mod Both
 pub mod Choices

@@ -4,4 +4,4 @@ use borrow.Author.Rules.{rules}
 use Rattle.reads.proofs.data.status_word.Goals as goal
 
 pub returns : goal.returns
-returns c = (simp (c.two.ensures.0, (goal.at.returns c).After-status_word-w.«status-word».ensures), search rules)
+returns c = (simp (c.two.ensures.0, c.status_word-w.ensures), search rules)

@@ -1,0 +1,28 @@
+-- `device::pages::all_valid` meets its contract: what is known of the pages passed, and those still to come, make up the whole.
+-- Assumes nothing.
+use Prim.Native.Nat.{◌-◌}
+use mathlib.Core.Path.{◌≡◌, refl}
+use native.Mathlib.Omega.{arith}
+use borrow.Author.Rules.{rules}
+use lib.ListN.{length}
+use Rattle.laws.proofs.Folds.{all_step, all_end, length-mapped}
+use Rattle.page.specs.Page.{no_page}
+use Rattle.page.specs.Settings.{page_valid}
+use Rattle.device.proofs.pages.all_valid.Goals as goal
+
+pub loop-i-init : goal.loop-i-init
+loop-i-init c = (search rules, refl)
+
+pub loop-i-preserved : goal.loop-i-preserved
+loop-i-preserved c =
+    let h = c.loop-i in
+    let l = c.args.ps in
+    let long : length l ≡ 8 = search (rules, length-mapped) in
+    (omega arith, all_step page_valid no_page l h.ok c.page_valid-ok.result h.i (omega arith) c.page_valid-ok.ensures h.invariant.1)
+
+pub returns : goal.returns
+returns c =
+    let h = c.loop-i in
+    let l = c.args.ps in
+    let long : length l ≡ 8 = search (rules, length-mapped) in
+    all_end page_valid no_page l h.ok h.i (omega arith) h.invariant.1
