@@ -1,21 +1,21 @@
 -- The answers are the lowest that apply.
 -- Assumes nothing.
 use Prim.Native.Nat.{ℕ, ◌+◌}
-use mathlib.Core.Path.{◌≡◌, refl, sym, ap, ◌∙◌}
+use mathlib.Core.Path.{◌≡◌, refl, ap, ◌∙◌}
 use mathlib.Core.Bool.{Bool, true, false, cond, not}
-use mathlib.Core.List.{List, [], ◌∷◌}
+use mathlib.Core.List.{List}
 use native.Mathlib.Omega.{arith}
 use lib.Dec.{ltb, leb, eqb}
 use lib.ListN.{length}
 use borrow.Author.Tests.{leb-true, leb-false, lt-ltb, le-ltb}
-use Rattle.laws.specs.Lines.{lowest}
 use Rattle.laws.proofs.Branches.{either}
 use Rattle.command.specs.Table.{lookup}
-use Rattle.replies.specs.Replies.{clocked_for, reply_answer}
-use Rattle.replies.specs.Applies.{RepliesApply, reply_lines}
+use Rattle.replies.specs.Replies.{clocked_for}
+use Rattle.replies.specs.Applies.{RepliesApply}
 use Rattle.replies.proofs.Applies.{replies_apply}
 use Rattle.host.specs.declared.build.Built.{Built}
-use Rattle.host.specs.Build.{write_frame, read_count, number_answer, write_form, read_form, place_answer, built, built_at, write_built, read_built}
+use Rattle.host.specs.Build.{write_frame, read_count, number_answer, write_form, read_form, place_answer, built}
+use Rattle.host.specs.Build.{built_at, write_built, read_built}
 use Rattle.host.specs.Parse.{is_account, parse_answer}
 use Rattle.host.specs.Applies.{due, write_size, given, WritesApply, ReadsApply, ParsesApply}
 use Rattle.host.proofs.Frames.{frame_length}

@@ -1,21 +1,20 @@
 -- The fields of a reply.
 -- Assumes nothing.
 use Prim.Native.Nat.{ℕ, ◌+◌, ◌*◌, ◌<◌}
-use mathlib.Core.Path.{◌≡◌, refl, sym, ap, ap₂, ◌∙◌}
-use mathlib.Core.Logic.{◌⊎◌, inl, inr}
-use mathlib.Core.Bool.{Bool, true, false, cond, not, ◌&&◌, ◌||◌, false≢true, and-eq-true_iff}
+use mathlib.Core.Path.{◌≡◌, refl, ap, ap₂, ◌∙◌}
+use mathlib.Core.Logic.{inl, inr}
+use mathlib.Core.Bool.{Bool, true, not, ◌&&◌, ◌||◌, and-eq-true_iff}
 use mathlib.Core.List.{List}
 use native.Mathlib.Omega.{arith}
 use lib.Dec.{eqb}
 use lib.ListN.{get_or}
-use borrow.Author.Tests.{eqb-true, eqb-false, eq-eqb, ne_eqb}
+use borrow.Author.Tests.{eqb-true, eq-eqb, ne_eqb}
 use Rattle.laws.proofs.Branches.{either}
 use Rattle.laws.proofs.Every.{agree-test}
 use Rattle.account.specs.Account.{account, account_of}
 use Rattle.command.specs.Table.{table, entry_of, lookup}
-use Rattle.host.specs.declared.parse.Reply.{Reply}
 use Rattle.host.specs.Parse.{parse_answer, reply, refused_reply, fields_of, parsed}
-use Rattle.host.specs.Fields.{Fields, FieldsRead, DataKinds}
+use Rattle.host.specs.Fields.{FieldsRead, DataKinds}
 
 -- ---- which numbers of data bytes there are, by computation over all codes
 
@@ -56,13 +55,17 @@ module _ (s : List ℕ) where
 
   two : fields_of 2 s ≡ reply 0 0 (get_or s 0 0 + 256 * get_or s 1 0) (account 0 0 0)
   unfolding fields_of
-  two = let e : get_or s 0 0 + get_or s 1 0 * 256 ≡ get_or s 0 0 + 256 * get_or s 1 0 = omega arith in ap (λ (w : ℕ). reply 0 0 w (account 0 0 0)) e
+  two =
+      let e : get_or s 0 0 + get_or s 1 0 * 256 ≡ get_or s 0 0 + 256 * get_or s 1 0 = omega arith in
+      ap (λ (w : ℕ). reply 0 0 w (account 0 0 0)) e
 
-  seven : fields_of 7 s ≡ reply 0 0 0 (account (get_or s 1 0 + 256 * get_or s 2 0) (get_or s 3 0) (get_or s 4 0 + 256 * get_or s 5 0 + 65536 * get_or s 6 0))
+  seven : fields_of 7 s ≡ reply 0 0 0
+      (account (get_or s 1 0 + 256 * get_or s 2 0) (get_or s 3 0) (get_or s 4 0 + 256 * get_or s 5 0 + 65536 * get_or s 6 0))
   unfolding fields_of account_of
   seven =
       let e : get_or s 1 0 + get_or s 2 0 * 256 ≡ get_or s 1 0 + 256 * get_or s 2 0 = omega arith in
-      let f : get_or s 4 0 + get_or s 5 0 * 256 + get_or s 6 0 * 65536 ≡ get_or s 4 0 + 256 * get_or s 5 0 + 65536 * get_or s 6 0 = omega arith in
+      let f : get_or s 4 0 + get_or s 5 0 * 256 + get_or s 6 0 * 65536 ≡ get_or s 4 0 + 256 * get_or s 5 0 + 65536 * get_or s 6 0
+      = omega arith in
       ap₂ (λ (x y : ℕ). reply 0 0 0 (account x (get_or s 3 0) y)) e f
 
 pub fields_read : FieldsRead

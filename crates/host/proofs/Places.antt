@@ -59,7 +59,9 @@ module _ (out bytes s : List ℕ) (code x : ℕ) (l : length out ≡ 3 + length 
   number = let k = ap length plain in omega arith
 
   pub checked-length : length out - 1 ≡ length (take (length out - 1) (s ++ drop (length out - 1) out))
-  checked-length = let k = number in sym (length-take-le (length out - 1) (s ++ drop (length out - 1) out) (simp length-append (omega arith)))
+  checked-length =
+      let k = number in
+      sym (length-take-le (length out - 1) (s ++ drop (length out - 1) out) (simp length-append (omega arith)))
 
   pub checked-end : x ≡ pec (take (length out - 1) (s ++ drop (length out - 1) out))
       → set (s ++ drop (length out - 1) out) (length out - 1) x ≡ write_frame code bytes true

@@ -13,9 +13,9 @@ use Rattle.laws.proofs.Branches.{either}
 use Rattle.pec.specs.Pec.{pec}
 use Rattle.replies.specs.Replies.{read_header}
 use Rattle.host.specs.declared.build.Built.{Built}
-use Rattle.host.specs.Build.{write_frame, read_count, write_form, read_form, place_answer, built, built_at, write_built, read_built, placed}
+use Rattle.host.specs.Build.{write_frame, read_count, write_form, read_form, built_at, write_built, read_built, placed}
 use Rattle.host.specs.Applies.{write_size}
-use Rattle.host.specs.Stored.{Kept, WriteBytes, WritesStored, HeaderBytes, ReadsStored}
+use Rattle.host.specs.Stored.{Kept, WritesStored, ReadsStored}
 use Rattle.host.proofs.Frames.{placed-none, placed-there, at_form, at_room}
 use Rattle.host.proofs.Applies.{frame_size}
 
@@ -117,7 +117,8 @@ module _ (code : ℕ) (bytes : List ℕ) where
   frame_data true j l = get_or-append bytes (pec (0xC0 ∷ code ∷ bytes) ∷ []) 0 j l
   frame_data false j l = refl
 
-  frame_check : (check : Bool) → check ≡ true → get_or (write_frame code bytes check) (suc (suc (length bytes))) 0 ≡ pec (0xC0 ∷ code ∷ bytes)
+  frame_check : (check : Bool) → check ≡ true
+      → get_or (write_frame code bytes check) (suc (suc (length bytes))) 0 ≡ pec (0xC0 ∷ code ∷ bytes)
   unfolding write_frame
   frame_check true e = get_or-append_seam (0xC0 ∷ code ∷ bytes) (pec (0xC0 ∷ code ∷ bytes)) [] 0
   frame_check false e = absurd (false≢true e)

@@ -19,7 +19,8 @@ pub record Fields (answer k : ℕ) (s : List ℕ) (r : Reply) : Type 0 where
   pub two : answer ≡ 0 → k ≡ 2 → r ≡ reply 0 0 (get_or s 0 0 + 256 * get_or s 1 0) (account 0 0 0)
   -- accumulator, rollover count, sample count
   pub seven : answer ≡ 0 → k ≡ 7
-      → r ≡ reply 0 0 0 (account (get_or s 1 0 + 256 * get_or s 2 0) (get_or s 3 0) (get_or s 4 0 + 256 * get_or s 5 0 + 65536 * get_or s 6 0))
+      → r ≡ reply 0 0 0
+      (account (get_or s 1 0 + 256 * get_or s 2 0) (get_or s 3 0) (get_or s 4 0 + 256 * get_or s 5 0 + 65536 * get_or s 6 0))
 
 unfoldable pub FieldsRead : Type 0
 FieldsRead = (code : ℕ) (check : Bool) (s : List ℕ) → Fields (parse_answer code check s) (lookup code).length s (parsed code check s)

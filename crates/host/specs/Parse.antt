@@ -34,4 +34,5 @@ fields_of k s =
     (reply 0 0 0 (account_of s)))
 
 unfoldable pub parsed : ℕ → Bool → List ℕ → Reply
-parsed code check s = cond (eqb (parse_answer code check s) 0) (fields_of (lookup code).length s) (refused_reply (parse_answer code check s))
+parsed code check s =
+    cond (eqb (parse_answer code check s) 0) (fields_of (lookup code).length s) (refused_reply (parse_answer code check s))
