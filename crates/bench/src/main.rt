@@ -9,7 +9,12 @@ ghost use Rattle.bench.specs.Held.{Leaves, Reached, to_run};
 
 use device::Device;
 use frame::blocks;
-use libc::{STDERR_FILENO, STDIN_FILENO, STDOUT_FILENO};
+use std::io::{Read, Stdin};
+
+// The streams that io writes to, by number.
+const STDOUT: i32 = 1;
+
+const STDERR: i32 = 2;
 
 // Between two blocks: the state, the number of characters of the line that has no LF yet, and whether there may be more to read.
 #[derive(Clone, Copy)]
@@ -21,7 +26,7 @@ struct Between {
 
 // Says on standard error that a write failed. There is nothing to do where that fails too.
 fn say_write_failed() {
-    io::write_all(STDERR_FILENO, b"bench: write failed\n");
+    io::write_all(STDERR, b"bench: write failed\n");
 }
 
 // Runs a whole block and writes its text. It stops where a write fails.
@@ -35,7 +40,7 @@ fn feed(d: Device, line: &mut [u8], n: usize, block: &[u8], out: &mut [u8]) -> B
     while at < block.len() {
         let p = blocks::run_block(e, line, k, block, at, out);
         let m = p.written;
-        if !io::write_all(STDOUT_FILENO, &out[..m]) {
+        if !io::write_all(STDOUT, &out[..m]) {
             say_write_failed();
             return Between {
                 device: e,
@@ -71,14 +76,31 @@ fn closed(read: usize, n: usize, block: &mut [u8]) -> usize
     1
 }
 
+// Reads what there is, at most a block, and says how many bytes came: 0 at the end of the input, and where the read fails.
+fn read_block(stdin: Stdin, block: &mut [u8]) -> usize
+    ensures { IsPrefixLen result block.new }
+{
+    let mut input = stdin;
+    match input.read(block) {
+        Ok(n) => n,
+        Err(_) => 0,
+    }
+}
+
 // Reads a block and runs it. A read that fails counts as the end of the input. What was read is not known; that it is run on what the
 // blocks before left is.
-fn turn(d: Device, line: &mut [u8], n: usize, block: &mut [u8], out: &mut [u8]) -> Between
+fn turn(
+    stdin: Stdin,
+    d: Device,
+    line: &mut [u8],
+    n: usize,
+    block: &mut [u8],
+    out: &mut [u8],
+) -> Between
     requires { (0 < length block.old) × (513 ≤ length out.old) × Reached d line.old n }
     ensures { result.going ≡ true → (read : ℕ) × (bytes : List ℕ) × Leaves (feed d line.old n (to_run read n bytes)) result.device line.new result.length }
 {
-    let got = libc::read(STDIN_FILENO, block);
-    let read = io::count(got, block);
+    let read = read_block(stdin, block);
     let k = closed(read, n, block);
     if k == 0 {
         return Between {
@@ -91,14 +113,14 @@ fn turn(d: Device, line: &mut [u8], n: usize, block: &mut [u8], out: &mut [u8]) 
 }
 
 // Nothing says that the input ends, so the loop counts its turns down, from a number that no run uses up.
-fn run(line: &mut [u8], block: &mut [u8], out: &mut [u8])
+fn run(stdin: Stdin, line: &mut [u8], block: &mut [u8], out: &mut [u8])
     requires { (0 < length block.old) × (513 ≤ length out.old) }
 {
     let mut d = device::power_on();
     let mut n: usize = 0;
     let mut turns = u64::MAX;
     while 0 < turns {
-        let b = turn(d, line, n, block, out);
+        let b = turn(stdin, d, line, n, block, out);
         if !b.going {
             return;
         }
@@ -108,9 +130,9 @@ fn run(line: &mut [u8], block: &mut [u8], out: &mut [u8])
     }
 }
 
-fn main() {
+fn main(rt: HostRuntime) {
     let mut line = [0u8; 512];
     let mut block = io::large_buffer();
     let mut out = io::large_buffer();
-    run(&mut line, &mut block, &mut out);
+    run(rt.stdin(), &mut line, &mut block, &mut out);
 }

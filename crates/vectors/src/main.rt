@@ -2,7 +2,6 @@
 // The frames of the sheet are the stored input of the program `bench`.
 #![tactic(auto)]
 
-
 fn line(n: u64) {
     io::print_decimal(1, n);
     io::write_all(1, b"\n");
