@@ -2,16 +2,15 @@
 -- Assumes nothing.
 use Prim.Native.Nat.{ℕ, zero, suc, ◌+◌, ◌-◌, ◌<◌, ◌≤◌}
 use mathlib.Core.Path.{◌≡◌, refl, sym, ap, ap₂, ◌∙◌}
-use mathlib.Core.Logic.{◌⊎◌, inl, inr, ⊎_elim}
-use mathlib.Core.Bool.{Bool, true, false, cond}
+use mathlib.Core.Logic.{inl, inr, ⊎_elim}
+use mathlib.Core.Bool.{Bool, true, false}
 use mathlib.Core.List.{List, [], ◌∷◌, ◌++◌}
 use native.Mathlib.Omega.{arith}
-use lib.Dec.{ltb, eqb}
+use lib.Dec.{ltb}
 use lib.ListN.{length, get_or, take, drop, length-append}
-use lib.Seq.{take_at, take_all, take-length, get_or_at, take-suc, length-take-le}
-use borrow.Author.Tests.{ltb-true, ltb-false, lt-ltb, le-ltb}
+use lib.Seq.{take_at, take_all, get_or_at, take-suc, length-take-le}
+use borrow.Author.Tests.{lt-ltb, le-ltb}
 use Rattle.laws.specs.Lists.{Bytes}
-use Rattle.laws.proofs.Branches.{either}
 use Rattle.laws.proofs.Lists.{byte-lt}
 use Rattle.pec.specs.Pec.{pec}
 use Rattle.pec.proofs.Laws.{pec-lt}
@@ -22,7 +21,7 @@ use Rattle.replies.specs.Replies.{read_header, clocked_for}
 use Rattle.host.specs.Build.{write_frame, read_count, number_answer, write_form, read_form}
 use Rattle.host.proofs.Frames.{write_right, read_right, frame_length}
 use Rattle.host.proofs.Stored.{frame_code}
-use Rattle.dialogue.specs.Transactions.{Transaction, writing, reading, Buildable, call_of, back, ClockedRead, Meant, AllMeant, BuiltBy, ExactlyOne}
+use Rattle.dialogue.specs.Transactions.{Transaction, writing, reading, Buildable, call_of, back, ClockedRead, Meant, AllMeant, ExactlyOne}
 
 -- ---- built, and taken apart
 

@@ -7,7 +7,6 @@ use mathlib.Core.List.{List, [], ◌∷◌, ◌++◌, append_assoc, append-nil}
 use native.Mathlib.Omega.{arith}
 use lib.ListN.{length, take, replicate, length-append}
 use lib.Seq.{take_at}
-use Rattle.laws.specs.Lists.{Bytes}
 use Rattle.pec.specs.Pec.{pec}
 use Rattle.command.specs.Table.{lookup}
 use Rattle.command.specs.Meaning.{command_of}
@@ -17,7 +16,6 @@ use Rattle.reads.specs.Request.{plain_of, addressed_of, request_of}
 use Rattle.reads.specs.Answers.{answers_data}
 use Rattle.reads.specs.Data.{read_data, request_data, checked, read_stream}
 use Rattle.reads.specs.Reply.{reply_of}
-use Rattle.reads.specs.Replies.{RepliesFollow}
 use Rattle.reads.proofs.Replies.{replies_follow}
 use Rattle.replies.specs.Replies.{read_header, clocked_for}
 use Rattle.host.specs.Build.{read_count}
@@ -27,7 +25,8 @@ abbrev pub more : ℕ → List ℕ → Bool → List ℕ
 more code bytes check = cond check (pec (0xC0 ∷ code ∷ 0xC1 ∷ bytes) ∷ []) []
 
 module _ (code : ℕ) (bytes : List ℕ) where
-  clocked-reply : (check : Bool) → reply_of (checked (read_header code) bytes) (clocked_for (length bytes) check) ≡ bytes ++ more code bytes check
+  clocked-reply : (check : Bool)
+      → reply_of (checked (read_header code) bytes) (clocked_for (length bytes) check) ≡ bytes ++ more code bytes check
   unfolding checked clocked_for
   clocked-reply true =
       let x = pec (0xC0 ∷ code ∷ 0xC1 ∷ bytes) in

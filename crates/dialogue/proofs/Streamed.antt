@@ -2,30 +2,27 @@
 -- Assumes nothing.
 use Prim.Native.Nat.{ℕ, ◌+◌, ◌<◌, ◌≤◌}
 use mathlib.Core.Path.{◌≡◌, refl, sym, ap, ◌∙◌}
-use mathlib.Core.Bool.{Bool, true, false, cond, not, ◌&&◌, ◌||◌, and-eq-true_iff, or-true}
+use mathlib.Core.Bool.{Bool, true, false, cond, not, ◌||◌, and-eq-true_iff, or-true}
 use mathlib.Core.List.{List, [], ◌∷◌, ◌++◌, map}
 use native.Mathlib.Omega.{arith}
-use lib.Dec.{ltb, eqb}
 use lib.ListN.{length, get_or, length-append}
 use borrow.Author.Tests.{lt-ltb, eq-eqb, ne_eqb}
 use Rattle.laws.specs.Lists.{Bytes}
 use Rattle.laws.proofs.Every.{agree-test}
 use Rattle.command.specs.Table.{table, entry_of, lookup}
 use Rattle.bus.specs.Part.{part_valid}
-use Rattle.bus.specs.Automaton.{Event, start, byte, again, clock}
+use Rattle.bus.specs.Automaton.{start, byte}
 use Rattle.bus.specs.Ack.{known, room_behind, acked_first, orderly, acked_second}
-use Rattle.reads.specs.Reply.{reply_of}
 use Rattle.device.specs.Device.{device_valid}
-use Rattle.device.specs.Step.{Call, write, sent, done, step}
-use Rattle.stream.specs.Stream.{State, state_valid, byte_ack, stopped, feed, sent_in, events, on, after}
+use Rattle.device.specs.Step.{write, sent, step}
+use Rattle.stream.specs.Stream.{State, state_valid, sent_in, events, on, after}
 use Rattle.stream.specs.Claims.{Written, Read, AckedFirst, AckedSecond}
 use Rattle.stream.proofs.Claims.{written, read_claim, acked_first_lem, acked_second_lem}
-use Rattle.replies.specs.Replies.{read_header, clocked_for}
 use Rattle.host.specs.Build.{write_frame, read_count}
 use Rattle.host.proofs.Frames.{write_right, read_right}
 use Rattle.host.proofs.Applies.{frame_size}
 use Rattle.host.proofs.Stored.{frame_address, frame_code}
-use Rattle.dialogue.specs.Transactions.{Transaction, writing, reading, Buildable, call_of}
+use Rattle.dialogue.specs.Transactions.{writing, reading, Buildable, call_of}
 use Rattle.dialogue.specs.Understood.{WritesUnderstood, ReadsUnderstood, RepliesHeard}
 use Rattle.dialogue.specs.Streamed.{events_of, AsCall, StreamUnderstood, StreamHeard, WriteAcked, ReadAcked}
 use Rattle.dialogue.proofs.Understood.{writes_understood, reads_understood}
@@ -96,7 +93,8 @@ one_or_none false = omega arith
 
 module _ (code : ℕ) (bytes : List ℕ) (check : Bool) (k : known code ≡ true) (e : length bytes ≡ (lookup code).length) where
   -- a frame has room for each of its bytes
-  frame_room : (bs : List ℕ) (b : ℕ) (more : List ℕ) → write_frame code bytes check ≡ bs ++ (b ∷ more) → length bs < (lookup code).length + 3
+  frame_room : (bs : List ℕ) (b : ℕ) (more : List ℕ) → write_frame code bytes check ≡ bs ++ (b ∷ more)
+      → length bs < (lookup code).length + 3
   frame_room bs b more same =
       let l = frame_size code bytes check in
       let m = ap length same ∙ length-append bs (b ∷ more) in

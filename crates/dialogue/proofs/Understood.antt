@@ -1,7 +1,7 @@
 -- What was built asks for that command with those data.
 -- Assumes nothing.
 use Prim.Native.Nat.{ℕ, ◌+◌, ◌-◌, ◌<◌}
-use mathlib.Core.Path.{◌≡◌, refl, sym, ap, ap₂, ◌∙◌}
+use mathlib.Core.Path.{◌≡◌, refl, ap, ap₂, ◌∙◌}
 use mathlib.Core.Logic.{◌⊎◌, inl, inr}
 use mathlib.Core.Bool.{Bool, true, false, cond, ◌&&◌}
 use mathlib.Core.List.{List, [], ◌∷◌, ◌++◌}
@@ -31,7 +31,7 @@ use Rattle.reads.specs.Answers.{request_answer, read_answer}
 use Rattle.reads.specs.Data.{read_stream}
 use Rattle.reads.specs.Reply.{reply_of}
 use Rattle.device.specs.declared.Device.{Device}
-use Rattle.device.specs.Device.{device_valid, page_shown}
+use Rattle.device.specs.Device.{page_shown}
 use Rattle.device.specs.Step.{write, read, answer_of, answered, effect, refused_device, left, sent, done, step}
 use Rattle.device.proofs.States.{answered-of}
 use Rattle.replies.specs.Replies.{read_header, clocked_for}
@@ -142,7 +142,8 @@ writes_understood d code bytes check v b =
 -- ---- reads
 
 module _ (code : ℕ) (r : (lookup code).read ≡ true) where
-  read_answer_lem : (check : Bool) (u : Unpaged) (p : Page) → read_answer u p (read_header code) (read_count code check) ≡ cond (every_page u && paged code) 9 0
+  read_answer_lem : (check : Bool) (u : Unpaged) (p : Page)
+      → read_answer u p (read_header code) (read_count code check) ≡ cond (every_page u && paged code) 9 0
   unfolding read_answer request_answer reading.data_answer request_of addressed_of plain_of read_count clocked_for
   read_answer_lem true u p =
       let k = (lookup code).length in

@@ -46,7 +46,8 @@ AllMeant = (t : Transaction) → Buildable t → Meant (call_of t)
 -- and every call that is meant comes from one transaction and no other: the one that has its code, the data that the table gives the code,
 -- and the packet check where a byte is left
 abbrev pub back : Call → Transaction
-back (write s) = writing (get_or s 1 0) (take (lookup (get_or s 1 0)).length (drop 2 s)) (ltb (2 + (lookup (get_or s 1 0)).length) (length s))
+back (write s) =
+    writing (get_or s 1 0) (take (lookup (get_or s 1 0)).length (drop 2 s)) (ltb (2 + (lookup (get_or s 1 0)).length) (length s))
 back (read header n) = reading (get_or header 1 0) (ltb (lookup (get_or header 1 0)).length n)
 back (measure page quantity word) = reading 0 false
 back (sample n) = reading 0 false
