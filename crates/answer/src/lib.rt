@@ -1,7 +1,6 @@
 // The answer numbers (data sheet 11.2 to 11.5), by name.
 #![tactic(auto)]
 
-
 pub const DONE: u8 = 0;
 
 // Transactions: the first byte is not the device's write address; no code, or a header of another form.
