@@ -2,26 +2,24 @@
 -- definition's, for those records.
 -- Assumes nothing.
 use Prim.Native.Nat.{ℕ}
-use mathlib.Core.Path.{◌≡◌, refl, sym, ap, ◌∙◌}
-use mathlib.Core.Bool.{true, cond, ◌&&◌, and-eq-true_iff, and-false}
+use mathlib.Core.Path.{◌≡◌, refl, ap, ◌∙◌}
+use mathlib.Core.Bool.{true, and-eq-true_iff, and-false}
 use mathlib.Core.List.{List}
 use lib.Dec.{eqb, ltb}
-use lib.ListN.{length, get_or}
+use lib.ListN.{length}
 use Rattle.laws.proofs.Branches.{either}
 use Rattle.account.specs.Account.{sampled}
 use Rattle.page.specs.declared.Page.{Page}
 use Rattle.page.specs.Page.{power_on_page}
 use Rattle.unpaged.specs.declared.Unpaged.{Unpaged}
-use Rattle.unpaged.specs.Unpaged.{unpaged_valid, shown}
+use Rattle.unpaged.specs.Unpaged.{shown}
 use Rattle.unpaged.specs.Events.{measure_answer, alert_answer}
 use Rattle.writes.specs.declared.answers.Judged.{Judged}
 use Rattle.writes.specs.Asked.{asked}
 use Rattle.writes.specs.Answers.{write_answer}
 use Rattle.reads.specs.Request.{request_of}
 use Rattle.reads.specs.Answers.{read_answer}
-use Rattle.reads.specs.Data.{read_stream}
 use Rattle.reads.specs.Reply.{stream, stream_of, reply_of}
-use Rattle.device.specs.declared.Device.{Device}
 use Rattle.device.specs.Device.{device, device_valid, supported, page_shown}
 use Rattle.device.specs.Step.{Call, write, read, measure, sample, alert_response, tick, answer_of, answered, left, effect, sent, refused_device, step}
 use Rattle.device.proofs.States.{valid_parts, answered-valid, answer-zero}

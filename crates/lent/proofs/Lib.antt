@@ -1,6 +1,5 @@
 pub mod Known
 pub mod Taken
 pub mod Outcomes
-pub mod Callees
 pub mod Sweep
 pub mod Powered

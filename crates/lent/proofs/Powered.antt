@@ -2,8 +2,8 @@
 -- Assumes nothing.
 use Prim.Native.Nat.{ℕ}
 use mathlib.Core.Path.{◌≡◌, refl, sym, ap, subst, ◌∙◌}
-use mathlib.Core.Bool.{Bool, true, false, cond, ◌&&◌, and-eq-true_iff}
-use mathlib.Core.List.{List, map}
+use mathlib.Core.Bool.{Bool, true, false, ◌&&◌, and-eq-true_iff}
+use mathlib.Core.List.{List}
 use native.Mathlib.Omega.{arith}
 use lib.Dec.{eqb, ltb}
 use lib.ListN.{length, replicate, length-replicate}
@@ -13,7 +13,7 @@ use Rattle.laws.proofs.Branches.{either}
 use Rattle.page.specs.declared.Page.{Page}
 use Rattle.page.specs.declared.PageChoice.{PageChoice}
 use Rattle.page.specs.Page.{power_on_page}
-use Rattle.page.specs.Choice.{page_granted, chosen_page}
+use Rattle.page.specs.Choice.{page_granted}
 use Rattle.unpaged.specs.Unpaged.{power_on_unpaged}
 use Rattle.device.specs.Device.{device, choice, supported, granted, chosen_unpaged, power_on}
 use Rattle.device.specs.Step.{done}
