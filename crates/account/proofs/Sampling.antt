@@ -1,8 +1,7 @@
 -- A sample adds itself, and the reply carries the account.
 -- Assumes nothing.
-use mathlib.Core.Path.{◌≡◌, refl}
-use Rattle.account.specs.Account.{sampled}
-use Rattle.account.specs.Sampling.{SampleDoes, AccountCounts}
+use mathlib.Core.Path.{refl}
+use Rattle.account.specs.Sampling.{AccountCounts}
 use Rattle.account.proofs.Laws.{taken, refused, added-count, added-energy, added-valid, read_back}
 
 pub account-counts : AccountCounts
