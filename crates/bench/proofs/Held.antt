@@ -1,14 +1,14 @@
 -- What is fed in parts.
 -- Assumes nothing.
 use Prim.Native.Nat.{ℕ, ◌-◌, ◌+◌, ◌≤◌}
-use mathlib.Core.Path.{◌≡◌, refl, sym, ap, ◌∙◌}
+use mathlib.Core.Path.{◌≡◌, sym, ap}
 use mathlib.Core.List.{List, ◌++◌}
 use native.Mathlib.Omega.{arith}
 use lib.ListN.{take, drop}
 use lib.Seq.{take-add}
 use Rattle.device.specs.declared.Device.{Device}
 use Rattle.device.specs.Device.{usual, power_on}
-use Rattle.frame.specs.Blocks.{Fed, feed}
+use Rattle.frame.specs.Blocks.{feed}
 use Rattle.frame.proofs.Feeding.{feed-append}
 use Rattle.bench.specs.Held.{Leaves, Reached}
 

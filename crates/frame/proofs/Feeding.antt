@@ -1,6 +1,6 @@
 -- Laws of characters fed one after the other: up to the first LF, and in two parts.
 -- Assumes nothing.
-use Prim.Native.Nat.{ℕ, suc, ◌+◌}
+use Prim.Native.Nat.{ℕ, suc}
 use mathlib.Core.Path.{◌≡◌, refl, sym, ap, ◌∙◌}
 use mathlib.Core.Bool.{true, false, false≢true}
 use mathlib.Core.List.{List, [], ◌∷◌, ◌++◌, append_assoc}
@@ -32,7 +32,8 @@ feed-gathers (c ∷ s) d line n e =
 -- up to the first LF: the line is gathered and run
 pub feed-line : (s : List ℕ) (d : Device) (line : List ℕ) (n : ℕ) → ends s ≡ true
     → feed d line n (take (suc (length (up_to s))) s)
-    ≡ fed (line_outcome d (held_in (sets line n (up_to s)) (count_of (length line) n (length (up_to s))))).done.device (sets line n (up_to s)) 0
+    ≡ fed (line_outcome d (held_in (sets line n (up_to s)) (count_of (length line) n (length (up_to s))))).done.device
+    (sets line n (up_to s)) 0
     (text_of (line_outcome d (held_in (sets line n (up_to s)) (count_of (length line) n (length (up_to s))))) ++ [])
 unfolding feed up_to ends
 feed-line [] d line n e = absurd (false≢true e)
