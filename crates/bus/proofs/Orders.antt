@@ -1,17 +1,17 @@
 -- Every list of events after START is a write, a read, the beginning of a read, or a breach of order.
 -- Assumes nothing.
 use Prim.Native.Nat.{ℕ, zero, suc}
-use mathlib.Core.Path.{◌≡◌, refl, sym, ap, ◌∙◌}
-use mathlib.Core.Bool.{true, false, cond}
+use mathlib.Core.Path.{◌≡◌, refl, ap}
+use mathlib.Core.Bool.{false}
 use mathlib.Core.List.{List, [], ◌∷◌, ◌++◌, map}
 use lib.ListN.{replicate}
 use lib.Dec.{eqb}
 use borrow.Author.Tests.{eq-eqb}
-use Rattle.laws.proofs.Branches.{either, other_eqb}
+use Rattle.laws.proofs.Branches.{other_eqb}
 use Rattle.bus.specs.declared.Part.{Part}
 use Rattle.bus.specs.Part.{writing, turning, reading, broken, started}
 use Rattle.bus.specs.Automaton.{Event, start, byte, again, clock, stop, after_byte, after_again, after_clock, byted, restarted, clocked, part_after, part_of}
-use Rattle.bus.specs.Orders.{write_order, turn_order, read_order, Inner, Order, a_write, a_turn, a_read, a_breach, EveryOrder, OrdersLead, BreachLasts}
+use Rattle.bus.specs.Orders.{Inner, Order, a_write, a_turn, a_read, a_breach, EveryOrder, OrdersLead, BreachLasts}
 
 -- ---- where each event leads
 

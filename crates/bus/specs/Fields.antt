@@ -1,6 +1,6 @@
 -- Which parts are valid, field by field (data sheet 17.11); the bytes kept and the reply may be any.
 -- Assumes nothing.
-use Rattle.std.specs.Prelude.{ℕ, ◌<◌, ◌≡◌, ◌↔◌, true}
+use Rattle.std.specs.Prelude.{◌<◌, ◌≡◌, ◌↔◌, true}
 use Rattle.bus.specs.declared.Part.{Part}
 use Rattle.bus.specs.Part.{part_valid}
 

@@ -1,7 +1,7 @@
 -- The machines that occur, by shape: P holds of the tries left, which are not 0 but of a machine that has tripped. P chosen, one law serves 7
 -- retries, 0 retries and the values of the byte.
 -- Assumes nothing.
-use Prim.Native.Nat.{ℕ, ◌-◌, ◌<◌}
+use Prim.Native.Nat.{ℕ, ◌<◌}
 use mathlib.Core.Path.{◌≡◌, refl, sym}
 use mathlib.Core.Logic.{◌⊎◌, inl, inr, ⊎_elim}
 use mathlib.Core.Bool.{Bool, true, false, cond, false≢true}

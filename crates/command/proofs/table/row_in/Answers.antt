@@ -1,6 +1,5 @@
 -- `command::table::row_in` meets its contract: what is left to search gives the same row as the whole.
 -- Assumes nothing.
-use Prim.Native.Nat.{◌-◌}
 use mathlib.Core.Path.{refl, ◌∙◌}
 use native.Mathlib.Omega.{arith}
 use borrow.Author.Rules.{rules}
