@@ -6,7 +6,7 @@ use native.Mathlib.Nat.{mul_comm, mul_assoc}
 use native.Mathlib.Omega.{arith}
 use lib.Dec.{ltb}
 use lib.Pow.{pow_mono}
-use lib.IntN.{ℤ, pos, ◌*ℤ◌, *ℤ_comm}
+use lib.IntN.{pos, ◌*ℤ◌, *ℤ_comm}
 use borrow.Author.Tests.{ltb-true, ltb-false}
 use Rattle.laws.proofs.Branches.{either}
 use Rattle.linear11.specs.Linear11.{signed_of, mantissa, exponent, scaled_of}

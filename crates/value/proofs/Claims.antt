@@ -1,18 +1,15 @@
 -- The claims on values: Linear11 words in the order of data sheet 5.5, DIRECT values by PMBus's formula, fractions by cross products, and examples.
 -- Assumes nothing.
 use mathlib.Core.Path.{◌≡◌, refl, sym, ap, ap₂, ◌∙◌}
-use mathlib.Core.Bool.{true, false}
 use Prim.Native.Nat.{ℕ, zero, suc, ◌*◌, ◌^◌, ◌<◌}
-use native.Mathlib.Nat.{mul_comm, mul_assoc, mul-pos, one-mul, mul-one}
-use lib.IntN.{ℤ, pos, negsuc, neg_ℤ, nat_abs, ◌+ℤ◌, ◌-ℤ◌, ◌*ℤ◌, +ℤ_assoc, +ℤ_comm, neg_ℤ-neg_ℤ, suc_ℤ-*ℤ, *ℤ_comm, *ℤ-zero, -ℤ-+ℤ_cancel}
+use native.Mathlib.Nat.{mul_comm, mul-pos, one-mul, mul-one}
+use lib.IntN.{ℤ, pos, neg_ℤ, nat_abs, ◌+ℤ◌, ◌-ℤ◌, ◌*ℤ◌, +ℤ_assoc, +ℤ_comm, neg_ℤ-neg_ℤ, suc_ℤ-*ℤ, *ℤ_comm, *ℤ-zero, -ℤ-+ℤ_cancel}
 use lib.Signed.{lt_z}
 use Rattle.linear11.specs.Linear11.{signed_of, mantissa, exponent, order_of}
 use Rattle.linear11.proofs.Picked.{said_below, said_equal, said_above, test, less, one_way, not_itself, neither}
-use Rattle.value.specs.declared.ratio.Ratio.{Ratio}
-use Rattle.value.specs.declared.format.Format.{Format}
 use Rattle.value.specs.Value.{ratio_order, above, under, linear_num, linear_den, direct_top, direct_num, direct_den, signed_by}
-use Rattle.value.specs.Format.{linear_format, signed_word, signed_byte, value_of, value_order, format_valid, comparison}
-use Rattle.value.specs.Claims.{LinearAgrees, Encodes, DirectMeans, ByProduct, OrderExact, Examples, Claims}
+use Rattle.value.specs.Format.{signed_word, signed_byte, value_of, value_order, format_valid, comparison}
+use Rattle.value.specs.Claims.{LinearAgrees, Encodes, DirectMeans, OrderExact, Examples, Claims}
 use Rattle.value.proofs.Laws.{linear_agrees, direct_means, times_times, turned}
 use Rattle.value.proofs.Shared.{some_size, ten_pos}
 

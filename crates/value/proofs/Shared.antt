@@ -1,19 +1,18 @@
 -- Two values with the same coefficients stand to each other as their words do.
 -- Assumes nothing.
 use mathlib.Core.Path.{◌≡◌, refl, sym, ap, ap₂, ◌∙◌}
-use mathlib.Core.Bool.{Bool, true, false, cond}
-use Prim.Native.Nat.{ℕ, zero, suc, ◌+◌, ◌-◌, ◌*◌, ◌%◌, ◌^◌, ◌<◌, ◌≤◌}
+use mathlib.Core.Bool.{true, false, cond}
+use Prim.Native.Nat.{ℕ, zero, suc, ◌+◌, ◌-◌, ◌*◌, ◌%◌, ◌^◌, ◌<◌}
 use native.Mathlib.Nat.{mul-pos}
 use native.Mathlib.Omega.{arith}
 use lib.Dec.{eqb, ltb}
-use lib.IntN.{ℤ, pos, negsuc, neg_ℤ, nat_abs, suc_ℤ, pred_ℤ, ◌+ℤ◌, ◌-ℤ◌, ◌*ℤ◌, suc-pred, +ℤ_idr, +ℤ-suc_ℤ, +ℤ-pred_ℤ, *ℤ-zero}
+use lib.IntN.{ℤ, pos, negsuc, neg_ℤ, nat_abs, suc_ℤ, pred_ℤ, ◌+ℤ◌, ◌*ℤ◌, suc-pred, +ℤ_idr, +ℤ-suc_ℤ, +ℤ-pred_ℤ, *ℤ-zero}
 use lib.Signed.{lt_z}
 use native.Mathlib.Numerals.{unary_clauses}
-use borrow.Author.Tests.{lt-ltb, le-ltb, ltb-true, ltb-false, eqb-true, eqb-false, eq-eqb, ne_eqb}
+use borrow.Author.Tests.{lt-ltb, le-ltb, ltb-true, ltb-false, eqb-true, eqb-false}
 use Rattle.laws.proofs.Branches.{either}
 use Rattle.linear11.specs.Linear11.{signed_of, order_of, word_order, linear_order}
-use Rattle.linear11.specs.declared.Order.{Order}
-use Rattle.linear11.specs.declared.Order.TheVariants.{Below, Equal, Above}
+use Rattle.linear11.specs.declared.Order.TheVariants.{Equal}
 use Rattle.linear11.proofs.Range.{below-zero}
 use Rattle.value.specs.declared.format.Format.{Format}
 use Rattle.value.specs.Value.{ratio_order, above, under, signed_by, direct_top, direct_num, direct_den}

@@ -1,12 +1,12 @@
 -- What the order of values means, in the papers' words and numbers: the definitions of Value and Format are held against this page.
 -- Assumes nothing.
-use Rattle.std.specs.Prelude.{ℕ, ◌*◌, ◌^◌, ◌<◌, ◌≡◌, true, false, ◌↔◌, ℤ, pos, neg_ℤ, ◌+ℤ◌, ◌*ℤ◌, ◌<ℤ◌}
+use Rattle.std.specs.Prelude.{ℕ, ◌^◌, ◌<◌, ◌≡◌, true, false, ◌↔◌, ℤ, pos, neg_ℤ, ◌+ℤ◌, ◌*ℤ◌, ◌<ℤ◌}
 use Rattle.linear11.specs.Linear11.{linear_order}
 use Rattle.linear11.specs.declared.Order.TheVariants.{Below, Equal, Above}
 use Rattle.value.specs.declared.ratio.Ratio.{Ratio}
 use Rattle.value.specs.declared.format.Format.{Format}
 use Rattle.value.specs.Value.{ratio_order}
-use Rattle.value.specs.Format.{linear_format, signed_word, signed_byte, value_of, value_order, format_valid, comparison}
+use Rattle.value.specs.Format.{linear_format, signed_word, signed_byte, value_of, value_order, comparison}
 
 -- Linear11 words are in the order of data sheet 5.5, whatever coefficients stand beside the mark
 unfoldable pub LinearAgrees : Type 0

@@ -1,7 +1,7 @@
 -- `replies::reply_answer` meets its contract.
 -- Assumes nothing.
 use mathlib.Core.Path.{sym, ◌∙◌}
-use borrow.Author.Tests.{eqb-true, not-false}
+use borrow.Author.Tests.{eqb-true}
 use Rattle.laws.proofs.Branches.{calls}
 use Rattle.replies.specs.Replies.{reply_answer}
 use Rattle.replies.proofs.reply_answer.Goals as goal

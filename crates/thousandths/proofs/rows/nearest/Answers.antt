@@ -1,7 +1,6 @@
 -- `thousandths::rows::nearest` meets its contract: at the loop's test the word found is the best of the rows 0 to e.
 -- Assumes nothing.
 use mathlib.Core.Path.{◌≡◌}
-use Prim.Native.Nat.{◌-◌}
 use native.Mathlib.Numerals.{add-one}
 use native.Mathlib.Omega.{arith}
 use borrow.Author.Rules.{rules}
