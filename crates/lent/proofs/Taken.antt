@@ -3,10 +3,10 @@
 -- Assumes nothing.
 use Prim.Native.Nat.{ℕ, zero, suc, ◌<◌}
 use mathlib.Core.Path.{◌≡◌, refl, ap}
-use mathlib.Core.Bool.{Bool, true, false, ◌&&◌, and-eq-true_iff, and-false}
+use mathlib.Core.Bool.{true, false, ◌&&◌, and-eq-true_iff, and-false}
 use mathlib.Core.List.{List, [], ◌∷◌}
 use native.Mathlib.Nat.{not-suc-le-zero, le_of_suc-le-suc}
-use lib.Dec.{T, ltb}
+use lib.Dec.{ltb}
 use lib.ListN.{length, get_or, set, get_or-eq_default}
 use borrow.Author.Tests.{ltb-true, ltb-false}
 use Rattle.laws.proofs.Branches.{either}
@@ -54,11 +54,6 @@ module _ (ps : List Page) (many : ltb (length ps) 97 ≡ false) where
   pub many_answered : (u : Unpaged) (c : Call) → answered (device u ps) c ≡ 15
   unfolding answered device_valid supported
   many_answered u c = rw (many, and-false (ltb 0 (length ps)))
-
--- a page that the records have, and what is asked of it
-pub within : (a b : Bool) → T a → b ≡ (a && b)
-within true b t = refl
-within false b t = absurd t
 
 -- no page beyond the records supplies
 off : supplies power_on_page ≡ false

@@ -20,9 +20,6 @@ module _ {A : Type 0} (p : A → Bool) (d : A) (l : List A) where
   pub found_end : (c : Bool) (i : ℕ) → length l ≤ i → (c || any_of p (drop i l)) ≡ any_of p l → c ≡ any_of p l
   found_end c i h inv = sym (or-false c) ∙ (rw (drop_of_length-le l h) at inv)
 
--- what is not wanted, and what is
-pub unwanted : (w x : Bool) → w ≡ false → false ≡ (w && x)
-unwanted w x t = rw t
-
+-- what is wanted
 pub wanted : (w x : Bool) → w ≡ true → x ≡ (w && x)
 wanted w x t = rw t
