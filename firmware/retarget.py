@@ -5,7 +5,7 @@ Every line must be of a form that was looked at and means the same on each such 
 other form stops the run. What is changed, and nothing else:
   1. The target's triple in place of x86-64's; the data layout goes, since the compiler has the target's. With `size` the functions are
      compiled for size, as by -Os.
-  2. The functions' attributes "probe-stack" and "target-cpu" go: they are x86-64's.
+  2. The functions' attributes "probe-stack", "stack-probe-size" and "target-cpu" go: they are x86-64's.
   3. On 32 bits the length of memmove and memset, a constant, is i32.
   4. The exported functions go, each a wrapper by x86-64's calling convention around the proved function of its name. In place of each
      stands one made from its prototype in the header, with numbers and addresses alone: NAME, or NAME_at with every struct by address,
@@ -20,6 +20,8 @@ from interface import NUMBERS, stop
 
 V, N, T = r'%[ar][0-9]+', r'-?[0-9]+', r'i(?:1|8|16|32|64)'
 P = r'%r[0-9]+'  # an address, never that of a parameter
+A = r'%a[0-9]+'  # a parameter
+PAIR = rf'\{{ {T}, {T} \}}'  # two integers, laid out as x86-64 does: firmware/build looks that the target does the same
 O = rf'(?:{V}|{N}|true|false)'
 L = r'%[a-z]+\.[0-9]+'
 META = r'(?:, ![a-z]+ ![0-9]+)*'
@@ -31,6 +33,10 @@ FORMS = re.compile('|'.join([
     rf'  {V} = load (?:{T}|ptr), ptr {P}, align [1248]{META}',
     rf'  store (?:{T} {O}|ptr {P}), ptr {P}, align [1248]',
     rf'  {V} = getelementptr(?: inbounds nuw)? i8, ptr {P}, i64 {O}',
+    # the address of a slice is stored beside its length; a part of a value behind a parameter, which is then moved
+    rf'  store ptr {A}, ptr {P}, align 8', rf'  {V} = getelementptr i8, ptr {A}, i64 [0-9]+',
+    # two integers at once
+    rf'  {V} = load {PAIR}, ptr {P}, align [1248]{META}', rf'  {V} = extractvalue {PAIR} {V}, [01]',
     # integers of a written width; divisions by constants alone
     rf'  {V} = (?:add|sub|mul)(?: nuw| nsw)* {T} {O}, {O}',
     rf'  {V} = (?:and|or|xor|shl|lshr|ashr) {T} {O}, {O}',
@@ -38,21 +44,23 @@ FORMS = re.compile('|'.join([
     rf'  {V} = icmp (?:eq|ne|[us][lg][te]) {T} {O}, {O}',
     rf'  {V} = (?:trunc(?: nuw| nsw)*|zext|sext) {T} {O} to {T}',
     # direct calls and jumps
-    rf'  (?:{V} = )?call (?:void|{T}) {NAME}\((?:{ARGUMENT}(?:, {ARGUMENT})*)?\)',
+    rf'  (?:{V} = )?call (?:void|{T}|{PAIR}) {NAME}\((?:{ARGUMENT}(?:, {ARGUMENT})*)?\)',
     rf'  br label {L}', rf'  br i1 {V}, label {L}, label {L}',
     rf'  switch {T} {V}, label {L} \[', rf'    {T} {N}, label {L}', r'  \]',
-    rf'  ret (?:void|{T} {O})', r'  unreachable',
+    rf'  ret (?:void|{T} {O}|{PAIR} {V})', r'  unreachable',
     r'start:', r'[a-z]+\.[0-9]+: +; preds = .*', r'\}', r'',
     # what names the module
     r'; Function Attrs: .*', r'; ModuleID = .*', r'source_filename = "rattle"', r'!llvm\.ident = !\{!0\}', r'![0-9]+ = !\{.*\}',
     r'attributes #[1-9] = \{ (?:nocallback|nofree|nounwind|willreturn|memory\(argmem: \w+\)| )* \}']))
-DEFINE = re.compile(rf'define internal (noundef )?(?:zeroext )?(void|{T}) ({NAME})\((.*)\) #0 \{{')
-PARAMETER = re.compile(rf'({T}|ptr) noundef (?:zeroext )?%a[0-9]+')
+DEFINE = re.compile(rf'define internal (noundef )?(?:zeroext )?(void|{T}|{PAIR}) ({NAME})\((.*)\) #0 \{{')
+PARAMETER = re.compile(rf'({T}|ptr) (?:noundef )?(?:zeroext )?%a[0-9]+')
 EXPORT = re.compile(r'define .*@(tongsorrel_\w+)\(.*\) #0 \{')
-# a parameter that is an address is copied from whole, and the first, the place of a result, copied to whole: nothing else is done with it
+# A parameter that is an address is copied from, and the first, the place of a result, copied to; that of a slice is stored. In a function that
+# an exported one calls each is copied whole, and nothing else is done with it: `wrapper` looks at that.
 MOVED = rf'(?:ptr {P}, ptr {V}|ptr %a0, ptr {P}|ptr {P}, i8 {N})'
 LENGTH = re.compile(rf'  call void @llvm\.mem(?:move\.p0|set)\.p0\.i64\({MOVED}, i64 ([0-9]+), i1 false\)')
-X86 = 'attributes #0 = { nounwind "probe-stack"="inline-asm" "target-cpu"="x86-64" }'
+X86 = 'attributes #0 = { nounwind "probe-stack"="inline-asm" "stack-probe-size"="3072" "target-cpu"="x86-64" }'
+USED = re.compile(rf'  (store) ptr ({A}), ptr {P}, align 8|  {V} = (getelementptr) i8, ptr ({A}), .*')
 
 
 def proved(lines, at):
@@ -60,49 +68,68 @@ def proved(lines, at):
     end = lines.index('}', at)
     calls = [line for line in lines[at:end] if ' call ' in line]
     name = EXPORT.fullmatch(lines[at])[1]
-    inner = re.search(rf'call \S+ ({NAME})\(', calls[0]) if len(calls) == 1 else None
+    inner = re.search(rf'call (?:\S+|{PAIR}) ({NAME})\(', calls[0]) if len(calls) == 1 else None
     if not inner or not inner[1].endswith(f'::{name}"'):
         stop(f'line {at + 1}: {name} is not a wrapper of the proved function of its name')
     return inner[1], end + 1
 
 
-def wrapper(function, inner, signature):
-    """The exported function of a prototype: slices are stored as address and length, structs stand behind addresses already."""
-    outer, given, types, body = [], [], [], []
+def wrapper(function, inner, signature, used):
+    """The exported function of a prototype: a slice is an address and a length, structs stand behind addresses already. A result of two
+    integers comes back as such, and is stored."""
+    outer, given, types, slices, body = [], [], [], [], []
 
     def hand(kind, value):
         given.append(f'{kind} {value}')
         types.append(kind)
 
+    kind = NUMBERS.get(function.type, signature[0] if signature[0].startswith('{') else 'void')
     if function.type not in NUMBERS:
         outer.append('ptr %result')
-        hand('ptr', '%result')
+        if kind == 'void':
+            hand('ptr', '%result')
     for first, length in interface.slices(function):
         if length:
+            # as in the kit's own: a slice that is null gets an address of another page than that of null
             outer += [f'ptr %{first.name}', f'i64 %{length.name}']
-            body += [f'  %{first.name}.slice = alloca [16 x i8], align 8', f'  store ptr %{first.name}, ptr %{first.name}.slice, align 8',
-                     f'  %{first.name}.length = getelementptr i8, ptr %{first.name}.slice, i64 8',
-                     f'  store i64 %{length.name}, ptr %{first.name}.length, align 8']
-            hand('ptr', f'%{first.name}.slice')
+            body += [f'  %{first.name}.none = icmp eq ptr %{first.name}, null', f'  %{first.name}.one = zext i1 %{first.name}.none to i64',
+                     f'  %{first.name}.away = mul i64 %{first.name}.one, 4096',
+                     f'  %{first.name}.place = getelementptr i8, ptr %{first.name}, i64 %{first.name}.away']
+            slices.append(f'%a{len(types)}')
+            hand('ptr', f'%{first.name}.place')
+            hand('i64', f'%{length.name}')
         elif first.type in NUMBERS:
-            kind = NUMBERS[first.type]
-            outer.append(f'{kind}{" zeroext" if kind == "i1" else ""} %{first.name}')
-            hand(kind, f'%{first.name}')
+            number = NUMBERS[first.type]
+            outer.append(f'{number}{" zeroext" if number == "i1" else ""} %{first.name}')
+            hand(number, f'%{first.name}')
         else:
             outer.append(f'ptr %{first.name}')
             hand('ptr', f'%{first.name}')
-    kind = NUMBERS.get(function.type, 'void')
     if (kind, types) != signature:
         stop(f'{function.name}: the header says {types} to {kind}, the proved function {signature}')
+    if used != {('store', place) for place in slices}:
+        stop(f'{function.name}: the proved function does more with an address than to copy a struct whole or to keep a slice')
     name = function.name + ('_at' if interface.by_value(function) else '')
     wide = 'zeroext ' if kind in ('i1', 'i8', 'i16') else ''
     call = f'call {kind} {inner}({", ".join(given)})'
-    body += [f'  {call}', '  ret void'] if kind == 'void' else [f'  %given = {call}', f'  ret {kind} %given']
-    return [f'define {wide}{kind} @{name}({", ".join(outer)}) #0 {{', 'start:', *body, '}', '']
+    if kind == 'void':
+        body += [f'  {call}', '  ret void']
+    elif kind.startswith('{'):
+        one, two = re.findall('i[0-9]+', kind)
+        fields = [NUMBERS.get(field.type) for field in interface.structs(interface.HEADER.read_text())[function.type]]
+        if fields != [one, two]:
+            stop(f'{function.name}: the header gives {fields}, the proved function {kind}')
+        body += [f'  %given = {call}', f'  %one = extractvalue {kind} %given, 0', f'  %two = extractvalue {kind} %given, 1',
+                 f'  store {one} %one, ptr %result, align 1', f'  %second = getelementptr i8, ptr %result, i64 {max(int(one[1:]), int(two[1:])) // 8}',
+                 f'  store {two} %two, ptr %second, align 1', '  ret void']
+    else:
+        body += [f'  %given = {call}', f'  ret {kind} %given']
+    gives = 'void' if kind.startswith('{') else kind
+    return [f'define {wide}{gives} @{name}({", ".join(outer)}) #0 {{', 'start:', *body, '}', '']
 
 
 def retarget(lines, bits, size):
-    out, wrapped, signatures, within, at = [], {}, {}, '', 0
+    out, wrapped, signatures, used, within, at = [], {}, {}, {}, '', 0
     while at < len(lines):
         line = lines[at]
         if EXPORT.fullmatch(line):
@@ -118,6 +145,7 @@ def retarget(lines, bits, size):
                 stop(f'line {at}: not a form that was looked at: {line}')
             signatures[head[3]] = (head[2], [p[1] for p in parameters])
             within = head[3]
+            used[within] = set()
         elif length := LENGTH.fullmatch(line):
             if int(length[1]) >= 1 << 31:
                 stop(f'line {at}: a length that 32 bits do not hold: {line}')
@@ -130,13 +158,15 @@ def retarget(lines, bits, size):
             line = f'attributes #0 = {{ nounwind{" optsize" if size else ""} }}'
         elif not FORMS.fullmatch(line) or ' call ' in line and f' {within}(' in line:
             stop(f'line {at}: not a form that was looked at, or a function that calls itself: {line}')
+        elif use := USED.fullmatch(line):
+            used[within].add((use[1] or use[3], use[2] or use[4]))
         line = re.sub(r', !(range|noundef) ![0-9]+', '', re.sub(r' (nuw|nsw|inbounds|noundef)\b', '', line))
         out += ['  call void @llvm.trap()', line] if line == '  unreachable' else [line]
     functions = {f.name: f for f in interface.functions(interface.HEADER.read_text())}
     for name, inner in sorted(wrapped.items()):
         if name not in functions:
             stop(f'the header has no {name}')
-        out += wrapper(functions[name], inner, signatures[inner])
+        out += wrapper(functions[name], inner, signatures[inner], used[inner])
     return out + ['declare void @llvm.trap()', '']
 
 

@@ -1,4 +1,4 @@
-//! Links the archives that `rt staticlib` leaves in the repository's target folder.
+//! Links the archives that `./archive` leaves in the repository's target folder.
 
 use std::path::Path;
 
