@@ -31,7 +31,7 @@ use Rattle.unpaged.proofs.ValidFields.{unpaged-valid-by_field}
 use Rattle.writes.proofs.Shows.{present-shows}
 use Rattle.reads.proofs.Gives.{reads_give, alert_replies}
 use Rattle.totalizer.proofs.Applies.{takes_apply}
-use Rattle.history.specs.EnergyExample.{copies_occur}
+use Rattle.history.proofs.EnergyExample.{copies_occur}
 use Rattle.history.proofs.ValidFields.{fifteen-by_field}
 use Rattle.history.proofs.EveryPage.{as_selected, paged-agrees}
 use Rattle.history.proofs.PowerOnReads.{power_on-reads}

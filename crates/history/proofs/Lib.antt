@@ -29,4 +29,5 @@ pub mod ValidFields
 pub mod EveryPage
 pub mod PowerOn
 pub mod PowerOnReads
+pub mod EnergyExample
 pub mod Claims

@@ -18,5 +18,5 @@ returns c =
     let is : device_valid d ≡ true → taken.result ≡ page_shown d = λ v. taken.ensures.1 ∙ shown-of_eight d taken.ensures.0 v in
     let e = read_made d header _ _ _ _ asks is _ _ c.device_valid-valid.ensures c.request_answer-rule.ensures c.answered-answer.ensures in record {
       value = stepped d (read _ _) _ _ e (c.refused-next.ensures ∙ read_left d _ _ _);
-      reply_after = replied d (read _ _) _ _ _ e (c.read_stream-stream.ensures ∙ ap stream (sent-shown d header _ _ _ _ asks is e)) c.send.ensures (read_bytes d _ _ _)
+      reply_after = replied d (read _ _) _ _ _ e (c.read_stream-stream.ensures ∙ ap stream (sent-shown d header _ _ _ _ asks is e)) c.send.ensures (read_bytes d _ _ _);
     }
