@@ -33,7 +33,7 @@
 extern "C" {
 #endif
 
-#define TONGSORREL_STACK 2560
+#define TONGSORREL_STACK 3072
 
 /* The version, and the number of the layout of all structs and of the state buffer. The number stands in the names of three functions, one
  * of each archive: a program that calls the one of its archive, as the examples do, does not link with an archive of another layout. */

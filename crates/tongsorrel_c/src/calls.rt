@@ -1,4 +1,5 @@
-// The device of `tongsorrel`, for C and Rust.
+// The device of `tongsorrel`, for C and Rust. Where a state comes in or goes out by value the call is that of `device`, which `tongsorrel`
+// calls too: one function more in between is a copy more of the state on the stack.
 ghost use Rattle.std.specs.Prelude.{◌≡◌, length};
 ghost use Rattle.device.specs.Device.{choice, usual, power_on, power_on_by};
 ghost use Rattle.device.specs.Step.{write, read, measure, sample, alert_response, tick, step};
@@ -12,7 +13,7 @@ use tongsorrel::calls::Choices;
 pub extern "C" fn tongsorrel_power_on() -> Device
     ensures { result ≡ power_on (usual 8) }
 {
-    tongsorrel::calls::tongsorrel_power_on()
+    device::power_on()
 }
 
 // Power-on by a choice for each page: 27, and the state of tongsorrel_power_on, where a format is not valid.
@@ -20,7 +21,7 @@ pub extern "C" fn tongsorrel_power_on() -> Device
 pub extern "C" fn tongsorrel_power_on_by(choices: Choices) -> Done
     ensures { result ≡ power_on_by (choice choices.pages) }
 {
-    tongsorrel::calls::tongsorrel_power_on_by(choices)
+    device::power_on_by(choices.pages)
 }
 
 // A write transaction: the bytes from START to STOP.
@@ -28,7 +29,7 @@ pub extern "C" fn tongsorrel_power_on_by(choices: Choices) -> Done
 pub extern "C" fn tongsorrel_write(d: Device, bytes: &[u8]) -> Done
     ensures { result ≡ (step d (write bytes.now)).done }
 {
-    tongsorrel::calls::tongsorrel_write(d, bytes)
+    device::write(d, bytes)
 }
 
 // A read transaction: the header, and a reply buffer as long as the host clocks bytes.
@@ -37,7 +38,7 @@ pub extern "C" fn tongsorrel_read(d: Device, header: &[u8], reply: &mut [u8]) ->
     ensures value { result ≡ (step d (read header.now (length reply.old))).done }
     ensures reply_after { reply.new ≡ (step d (read header.now (length reply.old))).reply }
 {
-    tongsorrel::calls::tongsorrel_read(d, header, reply)
+    device::read(d, header, reply)
 }
 
 // The latest word of a quantity (0 VOUT, 1 IOUT, 2 VIN, 3 temperature) on a page.
@@ -45,7 +46,7 @@ pub extern "C" fn tongsorrel_read(d: Device, header: &[u8], reply: &mut [u8]) ->
 pub extern "C" fn tongsorrel_measure(d: Device, page: u8, quantity: u8, word: u16) -> Done
     ensures { result ≡ (step d (measure page quantity word)).done }
 {
-    tongsorrel::calls::tongsorrel_measure(d, page, quantity, word)
+    device::measure(d, page, quantity, word)
 }
 
 // A power sample for the energy account.
@@ -53,7 +54,7 @@ pub extern "C" fn tongsorrel_measure(d: Device, page: u8, quantity: u8, word: u1
 pub extern "C" fn tongsorrel_sample(d: Device, power: u16) -> Done
     ensures { result ≡ (step d (sample power)).done }
 {
-    tongsorrel::calls::tongsorrel_sample(d, power)
+    device::sample(d, power)
 }
 
 // The alert response, with a reply buffer as long as the host clocks bytes.
@@ -62,7 +63,7 @@ pub extern "C" fn tongsorrel_alert_response(d: Device, reply: &mut [u8]) -> Done
     ensures value { result ≡ (step d (alert_response (length reply.old))).done }
     ensures reply_after { reply.new ≡ (step d (alert_response (length reply.old))).reply }
 {
-    tongsorrel::calls::tongsorrel_alert_response(d, reply)
+    device::alert_response(d, reply)
 }
 
 // A tick: one unit of the delays on every page.
@@ -70,7 +71,7 @@ pub extern "C" fn tongsorrel_alert_response(d: Device, reply: &mut [u8]) -> Done
 pub extern "C" fn tongsorrel_tick(d: Device) -> Done
     ensures { result ≡ (step d tick).done }
 {
-    tongsorrel::calls::tongsorrel_tick(d)
+    device::tick(d)
 }
 
 // Whether the firmware keeps the supply of a page switched on; a page over 7 is off.
@@ -78,7 +79,7 @@ pub extern "C" fn tongsorrel_tick(d: Device) -> Done
 pub extern "C" fn tongsorrel_supplies(d: Device, page: u8) -> bool
     ensures { result ≡ supplies_at d.pages page }
 {
-    tongsorrel::calls::tongsorrel_supplies(d, page)
+    device::supply::supplies_page(d, page)
 }
 
 // The layout of the structs and of the state buffer has a number, which stands in this name: a program made for another does not link.
