@@ -2,7 +2,6 @@
 -- Assumes nothing.
 use Rattle.std.specs.Prelude.{ℕ, ◌+◌, ◌*◌, ◌-◌, ◌%◌, ◌/◌, Bool, cond, ◌&&◌, List, [], ◌∷◌, ltb, get_or}
 use Rattle.account.specs.declared.Account.{Account}
-use Rattle.account.specs.declared.Sampled.{Sampled}
 
 abbrev pub account : ℕ → ℕ → ℕ → Account
 account a r c = record { accumulator = a; rollover = r; count = c }
@@ -17,6 +16,11 @@ added a sample =
     cond (ltb (a.accumulator + sample) 32768)
     (account (a.accumulator + sample) a.rollover ((a.count + 1) % 16777216))
     (account (a.accumulator + sample - 32768) ((a.rollover + 1) % 256) ((a.count + 1) % 16777216))
+
+-- the account after a sample, and the answer number
+pub record Sampled : Type 0 where
+  pub account : Account
+  pub answer : ℕ
 
 -- a sample over 32767 gets answer 13 and is not booked (data sheet 9.2)
 unfoldable pub sampled : Account → ℕ → Sampled

@@ -2,8 +2,7 @@
 -- Assumes nothing.
 use Rattle.std.specs.Prelude.{ℕ, ◌+◌, ◌%◌, ◌<◌, ◌≤◌, ◌≡◌, true}
 use Rattle.account.specs.declared.Account.{Account}
-use Rattle.account.specs.declared.Sampled.{Sampled}
-use Rattle.account.specs.Account.{account_valid, sampled, energy_reading, ein_bytes, account_of}
+use Rattle.account.specs.Account.{Sampled, account_valid, sampled, energy_reading, ein_bytes, account_of}
 
 -- the account a became b by a sample taken: both readings move by it, and wrap (data sheet 9.4, 9.6)
 pub record Added (sample : ℕ) (a b : Account) : Type 0 where

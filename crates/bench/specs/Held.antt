@@ -15,5 +15,5 @@ abbrev pub Reached : Device → List ℕ → ℕ → Type 0
 Reached d line n = (start : List ℕ) × (s : List ℕ) × Leaves (feed (power_on (usual 8)) start 0 s) d line n
 
 -- the characters to run after a read that put so many into the block: those, and at the end of the input an LF for a line that has characters
-unfoldable pub to_run : ℕ → ℕ → List ℕ → List ℕ
+abbrev pub to_run : ℕ → ℕ → List ℕ → List ℕ
 to_run read n block = cond (eqb read 0) (cond (eqb n 0) [] (10 ∷ [])) (take read block)

@@ -2,26 +2,24 @@
 // the blocks of a file give the text of its lines, is proved in `frame`; here are the reads and the writes.
 #![tactic(auto)]
 
-ghost use Rattle.std.specs.Prelude.{ℕ, ◌≤◌, ◌<◌, ◌≡◌, true, List, length, take};
+ghost use Rattle.std.specs.Prelude.{ℕ, ◌≤◌, ◌<◌, ◌≡◌, List, length, IfSome};
 ghost use Rattle.frame.specs.Blocks.{feed};
-ghost use Rattle.io.specs.Counts.{IsPrefixLen};
 ghost use Rattle.bench.specs.Held.{Leaves, Reached, to_run};
 
 use device::Device;
 use frame::blocks;
 use std::io::{Read, Stdin};
 
-// The streams that io writes to, by number.
+// The streams that io writes to, by number: docs/DECISIONS.md says what becomes of a failed write, which is what `io::write_all` does.
 const STDOUT: i32 = 1;
 
 const STDERR: i32 = 2;
 
-// Between two blocks: the state, the number of characters of the line that has no LF yet, and whether there may be more to read.
+// Between two blocks: the state, and the number of characters of the line that has no LF yet.
 #[derive(Clone, Copy)]
 struct Between {
     device: Device,
     length: usize,
-    going: bool,
 }
 
 // Says on standard error that a write failed. There is nothing to do where that fails too.
@@ -29,109 +27,85 @@ fn say_write_failed() {
     io::write_all(STDERR, b"bench: write failed\n");
 }
 
-// Runs a whole block and writes its text. It stops where a write fails.
-fn feed(d: Device, line: &mut [u8], n: usize, block: &[u8], out: &mut [u8]) -> Between
+// Runs a whole block and writes its text. None where a write fails.
+fn feed(b: Between, line: &mut [u8], block: &[u8], out: &mut [u8]) -> Option<Between>
     requires { 513 ≤ length out.old }
-    ensures { result.going ≡ true → Leaves (feed d line.old n block.now) result.device line.new result.length }
+    ensures { IfSome result (λ left. Leaves (feed b.device line.old b.length block.now) left.device line.new left.length) }
 {
-    let mut e = d;
-    let mut k = n;
-    let mut at: usize = 0;
+    let mut left = b;
+    let mut at = 0;
+    // A turn runs as many characters as fit the output, so no `for` counts the places.
     while at < block.len() {
-        let p = blocks::run_block(e, line, k, block, at, out);
-        let m = p.written;
-        if !io::write_all(STDOUT, &out[..m]) {
+        let p = blocks::run_block(left.device, line, left.length, block, at, out);
+        if !io::write_all(STDOUT, &out[..p.written]) {
             say_write_failed();
-            return Between {
-                device: e,
-                length: 0,
-                going: false,
-            };
+            return None;
         }
-        e = p.device;
-        k = p.length;
+        left = Between {
+            device: p.device,
+            length: p.length,
+        };
         at = p.next;
     }
-    Between {
-        device: e,
-        length: k,
-        going: true,
-    }
+    Some(left)
 }
 
-// The number of characters to run after a read, where the line before it has n. At the end of the input a last line that has characters
-// gets its LF.
-fn closed(read: usize, n: usize, block: &mut [u8]) -> usize
-    requires { (0 < length block.old) × IsPrefixLen read block.old }
-    ensures prefix_len { IsPrefixLen result block.new }
-    ensures block_after { take result block.new ≡ to_run read n block.old }
+// The characters to run after a read, where the line before it has n. At the end of the input a last line that has characters gets its LF.
+fn closed(read: &[u8], n: usize) -> &[u8]
+    ensures { result.now ≡ to_run (length read.now) n read.now }
 {
-    if 0 < read {
-        return read;
+    match read {
+        [] if n == 0 => &[],
+        [] => b"\n",
+        _ => read,
     }
-    if n == 0 {
-        return 0;
-    }
-    block[0] = b'\n';
-    1
 }
 
-// Reads what there is, at most a block, and says how many bytes came: 0 at the end of the input, and where the read fails.
-fn read_block(stdin: Stdin, block: &mut [u8]) -> usize
-    ensures { IsPrefixLen result block.new }
+// Reads what there is, at most a block: none at the end of the input, and where the read fails.
+fn read_block(stdin: Stdin, block: &mut [u8]) -> &[u8]
+    ensures { length result.now ≤ length block.old }
 {
     let mut input = stdin;
-    match input.read(block) {
-        Ok(n) => n,
-        Err(_) => 0,
-    }
+    let n = input.read(block).unwrap_or(0);
+    &block[..n]
 }
 
-// Reads a block and runs it. A read that fails counts as the end of the input. What was read is not known; that it is run on what the
-// blocks before left is.
+// Reads a block and runs it. None at the end: a read that fails counts as the end of the input. What was read is not known; that it is run
+// on what the blocks before left is.
 fn turn(
     stdin: Stdin,
-    d: Device,
+    b: Between,
     line: &mut [u8],
-    n: usize,
     block: &mut [u8],
     out: &mut [u8],
-) -> Between
-    requires { (0 < length block.old) × (513 ≤ length out.old) × Reached d line.old n }
-    ensures { result.going ≡ true → (read : ℕ) × (bytes : List ℕ) × Leaves (feed d line.old n (to_run read n bytes)) result.device line.new result.length }
+) -> Option<Between>
+    requires { (513 ≤ length out.old) × Reached b.device line.old b.length }
+    ensures { IfSome result (λ left. (read : ℕ) × (bytes : List ℕ) × Leaves (feed b.device line.old b.length (to_run read b.length bytes)) left.device line.new left.length) }
 {
-    let read = read_block(stdin, block);
-    let k = closed(read, n, block);
-    if k == 0 {
-        return Between {
-            device: d,
-            length: 0,
-            going: false,
-        };
+    match closed(read_block(stdin, block), b.length) {
+        [] => None,
+        text => feed(b, line, text, out),
     }
-    feed(d, line, n, &block[..k], out)
 }
 
-// Nothing says that the input ends, so the loop counts its turns down, from a number that no run uses up.
+// Nothing says that the input ends, so the loop has a number of turns that no run uses up.
 fn run(stdin: Stdin, line: &mut [u8], block: &mut [u8], out: &mut [u8])
-    requires { (0 < length block.old) × (513 ≤ length out.old) }
+    requires { 513 ≤ length out.old }
 {
-    let mut d = device::power_on();
-    let mut n: usize = 0;
-    let mut turns = u64::MAX;
-    while 0 < turns {
-        let b = turn(stdin, d, line, n, block, out);
-        if !b.going {
+    let mut b = Between {
+        device: device::power_on(),
+        length: 0,
+    };
+    for _ in 0..u64::MAX {
+        let Some(left) = turn(stdin, b, line, block, out) else {
             return;
-        }
-        d = b.device;
-        n = b.length;
-        turns -= 1;
+        };
+        b = left;
     }
 }
 
 fn main(rt: HostRuntime) {
-    let mut line = [0u8; 512];
+    let mut line = [0; 512];
     let mut block = io::large_buffer();
     let mut out = io::large_buffer();
     run(rt.stdin(), &mut line, &mut block, &mut out);

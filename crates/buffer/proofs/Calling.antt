@@ -3,43 +3,45 @@
 use Prim.Native.Nat.{ℕ, zero, suc, ◌+◌, ◌*◌, ◌<◌, ◌≤◌}
 use mathlib.Core.Path.{◌≡◌, refl, sym, ap, ap₂, ◌∙◌}
 use mathlib.Core.Bool.{Bool, true, false, cond, ◌&&◌, ◌||◌, or-true, and-false}
-use mathlib.Core.List.{List, [], map}
+use mathlib.Core.List.{List, map}
 use native.Mathlib.Omega.{arith}
 use lib.ListN.{length, get_or, set, length-set}
 use lib.Seq.{set_out, get_or-set_same}
 use lib.Dec.{eqb, ltb}
 use borrow.Author.Tests.{eqb-true, eqb-false, eq-eqb, ne_eqb, lt-ltb, le-ltb}
-use Rattle.laws.specs.Lists.{any_of, any_pair}
+use Rattle.std.proofs.Common.{Option, Some, None, Result, Ok, Err, IfOk}
+use Rattle.answer.specs.declared.Refusal.{Refusal}
+use Rattle.answer.specs.Answer.{number_of, answer_of as number_given}
+use Rattle.laws.specs.Lists.{any_of}
 use Rattle.laws.proofs.Branches.{either}
 use Rattle.page.specs.declared.Page.{Page}
 use Rattle.page.specs.Page.{no_page, power_on_page}
 use Rattle.page.specs.Causes.{ticked}
-use Rattle.page.specs.Status.{any_status, risen, supplies}
+use Rattle.page.specs.Status.{any_status, supplies}
 use Rattle.unpaged.specs.declared.Unpaged.{Unpaged}
 use Rattle.unpaged.specs.Unpaged.{acts_on, every_page, refused, cml_bits, shown}
 use Rattle.writes.specs.declared.asked.Write.{Write}
 use Rattle.writes.specs.Asked.{asked}
-use Rattle.writes.specs.declared.answers.Judged.{Judged}
 use Rattle.writes.specs.Answers.{write_answer}
 use Rattle.writes.specs.Left.{page_left}
 use Rattle.reads.specs.Answers.{read_answer}
-use Rattle.reads.specs.Reply.{stream, stream_of, reply_of, alert_stream}
-use Rattle.reads.specs.declared.reply.Stream.{Stream}
+use Rattle.reads.specs.Reply.{reply_of}
 use Rattle.device.specs.declared.Device.{Device}
 use Rattle.device.specs.declared.Done.{Done}
 use Rattle.device.specs.Device.{device}
-use Rattle.device.specs.Step.{Call, write, read, measure, alert_response, tick, answer_of, answered, refused_device, done, step}
+use Rattle.device.specs.Step.{Call, write, read, measure, alert_response, tick, answer_of, answered, refused_device, step}
 use Rattle.device.specs.Supply.{supplies_at}
 use Rattle.device.specs.Touches.{touches}
 use Rattle.device.proofs.States.{answered-of}
-use Rattle.device.proofs.Refused.{device-stays}
+use Rattle.device.proofs.Refused.{device-stays, refusal-nonzero}
 use Rattle.device.proofs.Calls.{stepped, read_left, valid_page_lem, one_small, measured-small}
 use Rattle.lent.specs.declared.Outcome.{Outcome}
 use Rattle.lent.specs.declared.turns.Turn.{Turn}
 use Rattle.lent.specs.declared.turns.Sending.{Sending}
-use Rattle.lent.specs.Lent.{beside, outcome, turn, refused_outcome, accepted_turn, write_turn, measure_turn, finished}
+use Rattle.lent.specs.Every.{swept, rising}
+use Rattle.lent.specs.Lent.{beside, outcome, refused_outcome, accepted_turn, write_turn, measure_turn, finished}
 use Rattle.lent.proofs.Taken.{put_back_lem, supplies-taken}
-use Rattle.lent.proofs.Outcomes.{swept, write_done, measure_done, tick_done}
+use Rattle.lent.proofs.Outcomes.{write_done, measure_done, tick_done}
 use Rattle.records.specs.Records.{surveyed}
 use Rattle.stream.specs.Stream.{eight_valid}
 use Rattle.layout.specs.Form.{array, get_all, store_all, FitAll}
@@ -51,7 +53,7 @@ use Rattle.layout.proofs.Shapes.{Shape, shape_fits, got_shape}
 use Rattle.layout.proofs.EightPages.{wide, page-set, page-length, page-shape}
 use Rattle.layout.proofs.Decoded.{device-is, unpaged-of, pages_of}
 use Rattle.buffer.specs.Buffer.{stores, store_pages, store_device}
-use Rattle.buffer.specs.Private.{store_unpaged, Held, Answers}
+use Rattle.buffer.specs.Private.{store_unpaged, every_stored, Held, Answers}
 use Rattle.buffer.proofs.Rules.{left-shape}
 use Rattle.buffer.proofs.Held.{all_seen, shown-taken}
 use Rattle.buffer.proofs.Stored.{none-stored, every_stored_lem, one_at, refused_none}
@@ -162,15 +164,12 @@ module _ (s : List ℕ) (h : Held s) (u : Unpaged) (eu : u ≡ unpaged_form.get 
 
 -- ---- a write
 
-abbrev pub every_stored : List ℕ → Bool → Write → List ℕ
-every_stored m every w = cond every (store_all page_form m pages_from (map (page_left w) (pages_in m))) m
-
--- the buffer after the selected page was put back, and after every one was changed
+-- the buffer after the selected page was put back, and after every one was changed where that is still to be done
 abbrev one_put : List ℕ → List ℕ → Unpaged → Turn → List ℕ
 one_put s bytes u t = put_back s (answered (device_of s) (write bytes)) u.page t.page
 
 abbrev all_put : List ℕ → List ℕ → Unpaged → Turn → List ℕ
-all_put s bytes u t = every_stored (one_put s bytes u t) t.every (asked bytes)
+all_put s bytes u t = every_stored (one_put s bytes u t) t.every
 
 -- what is found of the pages then
 record Found (s bytes : List ℕ) (u : Unpaged) (t : Turn) : Type 0 where
@@ -179,30 +178,20 @@ record Found (s bytes : List ℕ) (u : Unpaged) (t : Turn) : Type 0 where
   whole : all_put s bytes u t ≡ store_pages (stores (device_of s) (write bytes)) s pages_from (pages_in (all_put s bytes u t))
 
 module _ (s : List ℕ) (h : Held s) (u : Unpaged) (eu : u ≡ unpaged_form.get s unpaged_at) (bytes : List ℕ) (p : Page) (t : Turn)
-    (ep : p ≡ get_or (pages_in s) u.page power_on_page)
-    (et : t ≡ write_turn u p (answered (device_of s) (write bytes)) (asked bytes)) where
-  found_refused : (answered (device_of s) (write bytes) ≡ 0 → ⊥) → Found s bytes u t
-  unfolding write_turn
-  found_refused z =
+    (ep : p ≡ get_or (pages_in s) u.page power_on_page) where
+  found_refused : (answered (device_of s) (write bytes) ≡ 0 → ⊥) → t.page ≡ p → t.every ≡ None → Found s bytes u t
+  found_refused z page off =
       let d = device_of s in
-      let a = answered d (write bytes) in
-      let t_is : t ≡ turn (refused_outcome u a) p false false = et ∙ rw (ne_eqb a 0 z) in
-      let page : t.page ≡ p = ap (λ (x : Turn). x.page) t_is in
-      let off : t.every ≡ false = ap (λ (x : Turn). x.every) t_is in
-      let same : one_put s bytes u t ≡ s = rw (ne_eqb a 0 z) in
-      let none : all_put s bytes u t ≡ s = rw off same in
+      let same : one_put s bytes u t ≡ s = rw (ne_eqb (answered d (write bytes)) 0 z) in
+      let none : all_put s bytes u t ≡ s = ap (every_stored (one_put s bytes u t)) off ∙ same in
       record {
         back = ap pages_in same ∙ sym (ap (set (pages_in s) u.page) (page ∙ ep) ∙ put_back_lem power_on_page (pages_in s) u.page);
         long = ap length same ∙ h.long;
         whole = none ∙ sym (none-stored (stores d (write bytes)) s pages_from (pages_in (all_put s bytes u t)) (refused_none d (write bytes) z));
       }
 
-  module _ (z : answered (device_of s) (write bytes) ≡ 0) where
-    t_is : t ≡ accepted_turn u p (asked bytes)
-    unfolding write_turn
-    t_is = et ∙ rw (eq-eqb (answered (device_of s) (write bytes)) 0 z)
-
-    every_is : t.every ≡ every_page u
+  module _ (z : answered (device_of s) (write bytes) ≡ 0) (t_is : t ≡ accepted_turn u p (asked bytes)) where
+    every_is : t.every ≡ cond (every_page u) (Some (asked bytes)) None
     unfolding accepted_turn
     every_is = ap (λ (x : Turn). x.every) t_is
 
@@ -220,9 +209,9 @@ module _ (s : List ℕ) (h : Held s) (u : Unpaged) (eu : u ≡ unpaged_form.get 
         let w = asked bytes in
         let far : 8 ≤ u.page = omega (arith, eqb-true u.page 0xFF y) in
         let same : one_put s bytes u t ≡ s = rw (le-ltb u.page 8 far, and-false (eqb (answered d (write bytes)) 0)) in
-        let on : t.every ≡ true = every_is ∙ y in
+        let on : t.every ≡ Some w = every_is ∙ rw y in
         let all : all_put s bytes u t ≡ store_all page_form s pages_from (map (page_left w) (pages_in s)) =
-        rw on (ap (λ (x : List ℕ). store_all page_form x pages_from (map (page_left w) (pages_in x))) same) in
+        ap₂ every_stored same on in
         record {
           back = ap pages_in same ∙ sym (set_out (pages_in s) u.page t.page far);
           long = ap length same ∙ h.long;
@@ -234,14 +223,13 @@ module _ (s : List ℕ) (h : Held s) (u : Unpaged) (eu : u ≡ unpaged_form.get 
     unfolding touches acts_on
     found_one one =
         let d = device_of s in
-        let w = asked bytes in
         let k = u.page in
         let small : k < 8 = rw (unpaged-of s ∙ sym eu, pages_of s) at (one_small d (valid_page_lem d h.valid) (ap every_page (unpaged-of s ∙ sym eu) ∙ one)) in
-        let shape : Shape t.page = rw (page-is one, ep) (left-shape w _ (page-shape s k power_on_page small)) in
+        let shape : Shape t.page = rw (page-is one, ep) (left-shape (asked bytes) _ (page-shape s k power_on_page small)) in
         let same : one_put s bytes u t ≡ page_form.store s (pages_from + page_wide * k) t.page = rw (eq-eqb (answered d (write bytes)) 0 z, lt-ltb k 8 small) in
-        let off : t.every ≡ false = every_is ∙ one in
+        let off : t.every ≡ None = every_is ∙ rw one in
         let back : pages_in (one_put s bytes u t) ≡ set (pages_in s) k t.page = ap pages_in same ∙ page-set s k small h.long t.page shape in
-        let all : all_put s bytes u t ≡ one_put s bytes u t = rw off in
+        let all : all_put s bytes u t ≡ one_put s bytes u t = ap (every_stored (one_put s bytes u t)) off in
         record {
           back = back;
           long = ap length same ∙ page-length s k small h.long t.page shape;
@@ -253,93 +241,65 @@ module _ (s : List ℕ) (h : Held s) (u : Unpaged) (eu : u ≡ unpaged_form.get 
               ∙ ap (store_pages (stores d (write bytes)) s pages_from) (sym (ap pages_in all ∙ back));
         }
 
-  found : Found s bytes u t
-  found =
-      let a = answered (device_of s) (write bytes) in
-      either (eqb a 0)
-      (λ y. let z = eqb-true a 0 y in either (every_page u) (found_every z) (found_one z))
-      (λ o. found_refused (eqb-false a 0 o))
+  -- of a write that asks for something, and of one that is refused
+  found : (j : Result Write Refusal) → number_given j ≡ answered (device_of s) (write bytes) → IfOk j (λ w. w ≡ asked bytes) → t ≡ write_turn u p j → Found s bytes u t
+  unfolding write_turn
+  found (Ok w) ej ew et =
+      let t_is : t ≡ accepted_turn u p (asked bytes) = et ∙ ap (accepted_turn u p) ew in
+      either (every_page u) (found_every (sym ej) t_is) (found_one (sym ej) t_is)
+  found (Err r) ej ew et =
+      found_refused (λ z. eqb-false (number_of r) 0 (refusal-nonzero r) (ej ∙ z)) (ap (λ (x : Turn). x.page) et) (ap (λ (x : Turn). x.every) et)
+
+  answer-given : (j : Result Write Refusal) → number_given j ≡ answered (device_of s) (write bytes) → t ≡ write_turn u p j → t.outcome.answer ≡ answered (device_of s) (write bytes)
+  unfolding write_turn accepted_turn refused_outcome
+  answer-given (Ok w) ej et = ap (λ (x : Turn). x.outcome.answer) et ∙ ej
+  answer-given (Err r) ej et = ap (λ (x : Turn). x.outcome.answer) et ∙ ej
+
+-- the pages after every one was changed, where that is still to be done
+swept-in : (m : List ℕ) → length m ≡ size → (e : Option Write) → pages_in (every_stored m e) ≡ swept e (pages_in m)
+swept-in m long None = refl
+swept-in m long (Some w) = each-stored (page_left w) (left-shape w) m long
 
 -- the line of calls that ends a write
-module _ (s : List ℕ) (h : Held s) (u : Unpaged) (eu : u ≡ unpaged_form.get s unpaged_at) (bytes : List ℕ) (p : Page) (w : Write) (t : Turn) (m n : List ℕ) (rose standing : Bool) (o : Outcome)
+module _ (s : List ℕ) (h : Held s) (u : Unpaged) (eu : u ≡ unpaged_form.get s unpaged_at) (bytes : List ℕ) (p : Page) (j : Result Write Refusal) (t : Turn) (m n : List ℕ) (rose standing : Bool) (o : Outcome)
     (ep : p ≡ get_or (pages_in s) u.page power_on_page)
-    (ew : w ≡ asked bytes)
-    (et : t ≡ write_turn u p (answered (device_of s) (write bytes)) w)
+    (given : number_given j ≡ write_answer 8 u bytes)
+    (ew : IfOk j (λ w. w ≡ asked bytes))
+    (et : t ≡ write_turn u p j)
     (em : m ≡ put_back s t.outcome.answer u.page t.page)
-    (er : rose ≡ (t.every && any_pair risen (pages_in m) (map (page_left w) (pages_in m))))
-    (en : n ≡ every_stored m t.every w)
+    (er : rose ≡ rising t.every (pages_in m))
+    (en : n ≡ every_stored m t.every)
     (es : standing ≡ (t.clears && any_of any_status (pages_in n)))
     (eo : o ≡ finished t.outcome t.clears rose standing) where
-  turned : t ≡ write_turn u p (answered (device u (pages_in s)) (write bytes)) w
-  turned = et ∙ ap (λ (x : Device). write_turn u p (answered x (write bytes)) w) (sym (same_device s h u eu))
-
-  turn_is : t ≡ write_turn u p (answered (device_of s) (write bytes)) (asked bytes)
-  turn_is = et ∙ ap (write_turn u p (answered (device_of s) (write bytes))) ew
-
-  answer-given : t.outcome.answer ≡ answered (device_of s) (write bytes)
-  unfolding write_turn accepted_turn refused_outcome
-  answer-given =
-      let a = answered (device_of s) (write bytes) in
-      ap (λ (x : Turn). x.outcome.answer) turn_is
-      ∙ either (eqb a 0) (λ y. rw y (sym (eqb-true a 0 y))) (λ y. rw y)
+  ej : number_given j ≡ answered (device_of s) (write bytes)
+  unfolding answer_of
+  ej = given ∙ rw (answered-of (device_of s) (write bytes) h.valid, unpaged-of s, pages_of s, eu)
 
   m_is : m ≡ one_put s bytes u t
-  m_is = em ∙ ap (λ (x : ℕ). put_back s x u.page t.page) answer-given
+  m_is = em ∙ ap (λ (x : ℕ). put_back s x u.page t.page) (answer-given s h u eu bytes p t ep j ej et)
 
   n_is : n ≡ all_put s bytes u t
-  n_is = en ∙ ap₂ (λ (x : List ℕ) (y : Write). every_stored x t.every y) m_is ew
+  n_is = en ∙ ap (λ (x : List ℕ). every_stored x t.every) m_is
 
   seen : Found s bytes u t
-  seen = found s h u eu bytes p t ep turn_is
-
-  swept-are : pages_in n ≡ swept t.every w (pages_in m)
-  swept-are =
-      ap pages_in en
-      ∙ either t.every
-      (λ y. rw y (each-stored (page_left w) (left-shape w) m (ap length m_is ∙ seen.long)))
-      (λ y. rw y)
+  seen = found s h u eu bytes p t ep j ej ew et
 
   written-beside : beside o (pages_in n) ≡ (step (device_of s) (write bytes)).done
   written-beside =
+      let same = same_device s h u eu in
       ap (λ (x : Outcome). beside x (pages_in n)) eo
-      ∙ write_done u (pages_in s) bytes p w t (pages_in m) (pages_in n) rose standing ep (λ z. ew) turned (ap pages_in m_is ∙ seen.back) er swept-are es
-      ∙ ap (λ (d : Device). (step d (write bytes)).done) (same_device s h u eu)
-
-  asked-made : (r : List ℕ) → r ≡ unpaged_form.store n unpaged_at o.unpaged
-      → (o.answer ≡ (step (device_of s) (write bytes)).done.answer)
-      × (r ≡ store_device (stores (device_of s) (write bytes)) s (step (device_of s) (write bytes)).done.device)
-  asked-made r e = (
-    answer-is (device_of s) (write bytes) o (pages_in n) written-beside,
-    device-stored (device_of s) (write bytes) o (pages_in n) written-beside s n r
-        (n_is ∙ seen.whole ∙ ap (store_pages (stores (device_of s) (write bytes)) s pages_from) (ap pages_in (sym n_is))) e,
-  )
-
--- where the write is refused it does not matter what it asks for
-module _ (s : List ℕ) (h : Held s) (u : Unpaged) (eu : u ≡ unpaged_form.get s unpaged_at) (bytes : List ℕ) (p : Page) (j : Judged) (t : Turn) (m n : List ℕ) (rose standing : Bool) (o : Outcome)
-    (ep : p ≡ get_or (pages_in s) u.page power_on_page)
-    (ej : (j.answer ≡ write_answer 8 u bytes) × (j.answer ≡ 0 → j.write ≡ asked bytes))
-    (et : t ≡ write_turn u p j.answer j.write)
-    (em : m ≡ put_back s t.outcome.answer u.page t.page)
-    (er : rose ≡ (t.every && any_pair risen (pages_in m) (map (page_left j.write) (pages_in m))))
-    (en : n ≡ every_stored m t.every j.write)
-    (es : standing ≡ (t.clears && any_of any_status (pages_in n)))
-    (eo : o ≡ finished t.outcome t.clears rose standing) where
-  judged-answer : j.answer ≡ answered (device_of s) (write bytes)
-  unfolding answer_of
-  judged-answer = ej.0 ∙ rw (answered-of (device_of s) (write bytes) h.valid, unpaged-of s, pages_of s, eu)
+      ∙ write_done u (pages_in s) bytes p j t (pages_in m) (pages_in n) rose standing ep (ej ∙ ap (λ (d : Device). answered d (write bytes)) (sym same)) ew et
+      (ap pages_in m_is ∙ seen.back) er (ap pages_in en ∙ swept-in m (ap length m_is ∙ seen.long) t.every) es
+      ∙ ap (λ (d : Device). (step d (write bytes)).done) same
 
   pub written-made : (r : List ℕ) → r ≡ unpaged_form.store n unpaged_at o.unpaged
       → (o.answer ≡ (step (device_of s) (write bytes)).done.answer)
       × (r ≡ store_device (stores (device_of s) (write bytes)) s (step (device_of s) (write bytes)).done.device)
-  unfolding write_turn
-  written-made r e =
-      let a = answered (device_of s) (write bytes) in
-      let turned : t ≡ write_turn u p a j.write = et ∙ ap (λ (x : ℕ). write_turn u p x j.write) judged-answer in
-      either (eqb a 0)
-      (λ y. asked-made s h u eu bytes p j.write t m n rose standing o ep (ej.1 (judged-answer ∙ eqb-true a 0 y)) turned em er en es eo r e)
-      (λ f. let t_is : t ≡ turn (refused_outcome u a) p false false = turned ∙ rw f in
-      let off : t.every ≡ false = ap (λ (x : Turn). x.every) t_is in
-      asked-made s h u eu bytes p (asked bytes) t m n rose standing o ep refl (t_is ∙ rw f) em (er ∙ rw off) (en ∙ rw off) es eo r e)
+  written-made r e = (
+    answer-is (device_of s) (write bytes) o (pages_in n) written-beside,
+    device-stored (device_of s) (write bytes) o (pages_in n) written-beside s n r
+        (n_is ∙ seen.whole ∙ ap (store_pages (stores (device_of s) (write bytes)) s pages_from) (ap pages_in (sym n_is))) e,
+  )
 
 -- ---- a tick
 
@@ -387,7 +347,7 @@ disorder-made s t e = e ∙ ap (store_unpaged s) (device-stays (device_of s) 2 r
 
 pub alert_made : (s : List ℕ) → Held s → (u : Unpaged) → u ≡ unpaged_form.get s unpaged_at → (n : ℕ) (t : Sending)
     → ((ps : List Page) → eight_valid ≡ surveyed ps
-    → (beside t.outcome ps ≡ (step (device u ps) (alert_response n)).done) × (reply_of (stream_of t.stream) n ≡ (step (device u ps) (alert_response n)).reply))
+    → (beside t.outcome ps ≡ (step (device u ps) (alert_response n)).done) × (reply_of t.stream n ≡ (step (device u ps) (alert_response n)).reply))
     → Answers s (alert_response n) t
 alert_made s h u eu n t f =
     let both = f (pages_in s) (all_seen s h) in
@@ -396,10 +356,6 @@ alert_made s h u eu n t f =
       left = ap (λ (ps : List Page). beside t.outcome ps) (pages_of s) ∙ both.0 ∙ ap (λ (d : Device). (step d (alert_response n)).done) same;
       sends = both.1 ∙ ap (λ (d : Device). (step d (alert_response n)).reply) same;
     }
-
-pub nothing-sent : (n : ℕ) (x : Stream) (r : List ℕ) → x ≡ stream (alert_stream 15) → r ≡ reply_of (stream_of x) n → r ≡ reply_of [] n
-unfolding alert_stream stream
-nothing-sent n x r e f = f ∙ ap (λ (y : Stream). reply_of (stream_of y) n) e
 
 -- ---- what supplies
 

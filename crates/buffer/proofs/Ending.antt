@@ -1,13 +1,14 @@
 -- The five events over a buffer, from what their functions find.
 -- Assumes nothing.
-use Prim.Native.Nat.{ℕ, suc, ◌+◌, ◌-◌, ◌<◌, ◌≤◌}
+use Prim.Native.Nat.{ℕ, suc, ◌+◌, ◌-◌, ◌≤◌}
 use mathlib.Core.Path.{◌≡◌, refl, sym, ap, ap₂, ◌∙◌}
 use mathlib.Core.Bool.{Bool, true, false, cond, ◌&&◌, and-eq-true_iff}
 use mathlib.Core.List.{List, [], ◌∷◌}
 use native.Mathlib.Omega.{arith}
-use lib.ListN.{length, get_or, take, drop, replicate, length-append, length-take, length-replicate}
+use lib.ListN.{length, get_or, take, drop, length-append, length-take, length-replicate}
 use lib.Dec.{ltb, eqb}
-use borrow.Author.Tests.{eq-eqb, ltb-true}
+use borrow.Author.Tests.{ltb-true}
+use Rattle.std.proofs.Common.{subst}
 use Rattle.laws.proofs.Branches.{either}
 use Rattle.bus.specs.declared.Part.{Part}
 use Rattle.bus.specs.Part.{heard, taking, answering, started, idle, part_valid}
@@ -16,27 +17,23 @@ use Rattle.bus.specs.Ack.{ack_in, ack_of}
 use Rattle.page.specs.declared.Page.{Page}
 use Rattle.page.specs.Page.{power_on_page}
 use Rattle.unpaged.specs.declared.Unpaged.{Unpaged}
-use Rattle.unpaged.specs.Unpaged.{power_on_unpaged, shown}
+use Rattle.unpaged.specs.Unpaged.{shown}
 use Rattle.device.specs.declared.Device.{Device}
 use Rattle.device.specs.declared.Done.{Done}
-use Rattle.device.specs.Device.{usual, power_on, device_valid}
+use Rattle.device.specs.Device.{device_valid}
 use Rattle.device.specs.Step.{write, read, done, step}
-use Rattle.device.proofs.PowerOn.{usual-device}
 use Rattle.stream.specs.Stream.{State, state, state_valid, page_reply, byte_taken, part_next, ended}
 use Rattle.stream.proofs.Stopping.{reply-shown}
-use Rattle.layout.specs.Form.{store_all}
-use Rattle.layout.specs.Layout.{part_form, account_form, unpaged_form, page_form, device_form, state_form, pages_in, pages_from, size, unpaged_at}
-use Rattle.layout.specs.State.{decode, encode, ready, part_of, device_of}
-use Rattle.layout.proofs.Laws.{part-back, unpaged-fits, state-back}
+use Rattle.layout.specs.Layout.{part_form, unpaged_form, page_form, pages_in, pages_from, size, unpaged_at}
+use Rattle.layout.specs.State.{decode, ready, part_of, device_of}
+use Rattle.layout.proofs.Laws.{part-back}
 use Rattle.layout.proofs.Places.{store_over}
-use Rattle.layout.proofs.Shapes.{shape_fits}
-use Rattle.layout.proofs.EightPages.{part-wide, whole_wide}
+use Rattle.layout.proofs.EightPages.{part-wide}
 use Rattle.layout.proofs.Kept.{Sized, part-fits, got_sized, byted-sized, reply-made, heard-part}
 use Rattle.layout.proofs.Decoded.{part-of, unpaged-of}
 use Rattle.layout.proofs.StoredPart.{idle-sized, part_length, part-decodes}
-use Rattle.buffer.specs.Buffer.{store_pages, store_device, stores, end_stores, stop_fed, part_fed, taken_of, power_fed, gives}
+use Rattle.buffer.specs.Buffer.{store_pages, store_device, stores, end_stores, stop_fed, part_fed, taken_of, gives}
 use Rattle.buffer.specs.Private.{store_unpaged, Held, Keeping, store_reply}
-use Rattle.buffer.proofs.Rules.{power_on-shape}
 use Rattle.buffer.proofs.Held.{held, shown-taken}
 use Rattle.buffer.proofs.Stored.{unpaged-alone}
 
@@ -217,6 +214,10 @@ module _ (s : List ℕ) (p : Part) (x : ℕ) (t : List ℕ) where
   pub end_disorder : eqb p.phase 1 ≡ false → eqb p.phase 3 ≡ false → x ≡ 2 → t ≡ store_unpaged s (device_of s) → Ended
   unfolding ended
   end_disorder n m a b = end_kept (done (device_of s) 2) n (rw (n, m)) a b
+
+-- of the same buffer
+pub ended_in : (s u : List ℕ) (p : Part) (x : ℕ) (t : List ℕ) → u ≡ s → Ended u p x t → Ended s p x t
+ended_in s u p x t e h = let P : List ℕ → Type 0 = λ v. Ended v p x t in subst P e h
 
 -- nothing is kept, and the device is as it was
 module _ (s : List ℕ) (h : Held s) where

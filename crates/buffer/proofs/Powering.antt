@@ -1,23 +1,22 @@
 -- Power-on of a buffer, by nothing and by choices as bytes: every byte of it is set.
 -- Assumes nothing.
-use Prim.Native.Nat.{ℕ, zero, suc, ◌+◌, ◌*◌, ◌<◌, ◌≤◌}
-use mathlib.Core.Path.{◌≡◌, refl, sym, ap, ap₂, ◌∙◌}
+use Prim.Native.Nat.{ℕ, zero, suc, ◌+◌, ◌*◌, ◌<◌}
+use mathlib.Core.Path.{◌≡◌, refl, sym, ap, ◌∙◌}
 use mathlib.Core.Bool.{Bool, true, false, cond, ◌&&◌, false≢true, and-eq-true_iff}
-use mathlib.Core.List.{List, [], ◌∷◌, map, append-nil}
-use native.Mathlib.Omega.{arith}
-use lib.ListN.{length, get_or, drop, replicate, get_or-map}
+use mathlib.Core.List.{List, [], map, append-nil}
+use lib.ListN.{length, replicate, get_or-map}
 use lib.Dec.{eqb}
-use borrow.Author.Tests.{eq-eqb, eqb-true}
+use borrow.Author.Tests.{eq-eqb, ne_eqb}
+use Rattle.std.proofs.lemmas.List.{ext_get_or}
+use Rattle.std.specs.Array.{IsWholeChunk}
 use Rattle.laws.specs.Lists.{all_of}
 use Rattle.laws.proofs.Branches.{either}
-use Rattle.bus.specs.declared.Part.{Part}
 use Rattle.bus.specs.Part.{idle}
 use Rattle.bus.proofs.Defaults.{within}
 use Rattle.page.specs.declared.Page.{Page}
 use Rattle.page.specs.declared.PageChoice.{PageChoice}
-use Rattle.page.specs.Page.{power_on_page}
+use Rattle.page.specs.Page.{no_page, power_on_page}
 use Rattle.page.specs.Choice.{usual_page, page_granted, chosen_page}
-use Rattle.unpaged.specs.declared.Unpaged.{Unpaged}
 use Rattle.unpaged.specs.Unpaged.{power_on_unpaged}
 use Rattle.device.specs.declared.Done.{Done}
 use Rattle.device.specs.Device.{device, Choice, choice, usual, supported, granted, chosen_unpaged, power_on, power_on_by}
@@ -25,16 +24,17 @@ use Rattle.device.specs.Step.{done}
 use Rattle.device.proofs.PowerOn.{usual-granted, usual-device}
 use Rattle.stream.specs.Stream.{State, state}
 use Rattle.layout.specs.Form.{get_all, store_all, FitAll}
-use Rattle.layout.specs.Layout.{part_form, account_form, unpaged_form, page_form, device_form, state_form, choice_form, choices_in, choice_wide, choices_size, page_wide, pages_from, size, unpaged_at}
+use Rattle.layout.specs.Layout.{part_form, account_form, unpaged_form, page_form, device_form, state_form, choice_form, pages_in, choices_in, choice_wide, choices_size, pages_from, size, unpaged_at}
 use Rattle.layout.specs.State.{encode}
-use Rattle.layout.proofs.Laws.{unpaged-fits, state-back, store_step, store_end}
-use Rattle.layout.proofs.Shapes.{Shape, shape_fits}
-use Rattle.layout.proofs.EightPages.{wide, whole_wide, choice-at, page-length}
+use Rattle.layout.proofs.Laws.{unpaged-fits, state-back}
+use Rattle.layout.proofs.Shapes.{shape_fits}
+use Rattle.layout.proofs.EightPages.{whole_wide, choice-at}
 use Rattle.layout.proofs.Kept.{part-fits}
 use Rattle.layout.proofs.StoredPart.{idle-sized}
-use Rattle.buffer.specs.Buffer.{power_fed, powered_by, power_by_fed, power_by_gives}
-use Rattle.buffer.specs.Private.{choices_granted}
+use Rattle.buffer.specs.Buffer.{power_fed, power_gives, powered_by, power_by_fed, power_by_gives}
+use Rattle.buffer.specs.Private.{fresh, choices_granted}
 use Rattle.buffer.proofs.Rules.{power_on-shape, chosen_shape}
+use Rattle.buffer.proofs.Changing.{page_of}
 
 -- ---- the whole state stored
 
@@ -56,11 +56,10 @@ module _ (ps : List Page) (eight : length ps ≡ 8) (fits : FitAll page_form ps)
   unfolding state_form part_form device_form unpaged_form account_form
   whole-store s = refl
 
-  whole-made : (s : List ℕ) → length s ≡ size → (p : Part) (u : Unpaged) (a b t : List ℕ) → p ≡ idle → u ≡ power_on_unpaged
-      → a ≡ part_form.store s 0 p → b ≡ unpaged_form.store a unpaged_at u → t ≡ store_all page_form b pages_from ps → t ≡ encode whole
+  whole-made : (s : List ℕ) → length s ≡ size → (b t : List ℕ) → b ≡ fresh s → t ≡ store_all page_form b pages_from ps → t ≡ encode whole
   unfolding encode
-  whole-made s l p u a b t ep eu ea eb et =
-      et ∙ ap (λ (m : List ℕ). store_all page_form m pages_from ps) (eb ∙ ap₂ (λ (m : List ℕ) (v : Unpaged). unpaged_form.store m unpaged_at v) (ea ∙ ap (part_form.store s 0) ep) eu)
+  whole-made s l b t eb et =
+      et ∙ ap (λ (m : List ℕ). store_all page_form m pages_from ps) eb
       ∙ whole-store s
       ∙ ap (λ (m : List ℕ). state_form.store m 0 whole) (sym (append-nil s))
       ∙ state-back.stored whole whole-fits [] s [] (l ∙ sym whole_wide)
@@ -80,17 +79,30 @@ power_fits = rw (usual-device 8) (whole-fits (replicate 8 power_on_page) refl (u
 pub chosen_fits : (cs : List ℕ) → state_form.Fits (state idle (power_on (choice (choices_in cs))))
 chosen_fits cs = rw (chosen_device (choices_in cs)) (whole-fits (map chosen_page (choices_in cs)) refl (chosen_all 8 cs 0))
 
-pub powered-made : (s : List ℕ) → length s ≡ size → (p : Part) (u : Unpaged) (a b t : List ℕ) → p ≡ idle → u ≡ power_on_unpaged
-    → a ≡ part_form.store s 0 p → b ≡ unpaged_form.store a unpaged_at u → t ≡ store_all page_form b pages_from (replicate 8 power_on_page) → t ≡ power_fed s
+pub powered-made : (s : List ℕ) → length s ≡ size → (b t : List ℕ) → b ≡ fresh s → t ≡ store_all page_form b pages_from (replicate 8 power_on_page) → t ≡ power_fed s
 unfolding power_fed
-powered-made s l p u a b t ep eu ea eb et =
-    rw (eq-eqb (length s) size l, usual-device 8) (whole-made (replicate 8 power_on_page) refl (usual-all 8) s l p u a b t ep eu ea eb et)
+powered-made s l b t eb et =
+    rw (eq-eqb (length s) size l, usual-device 8) (whole-made (replicate 8 power_on_page) refl (usual-all 8) s l b t eb et)
 
-pub chosen_made : (cs s : List ℕ) → length s ≡ size → (p : Part) (u : Unpaged) (a b t : List ℕ) → p ≡ idle → u ≡ power_on_unpaged
-    → a ≡ part_form.store s 0 p → b ≡ unpaged_form.store a unpaged_at u → t ≡ store_all page_form b pages_from (map chosen_page (choices_in cs))
+pub chosen_made : (cs s : List ℕ) → length s ≡ size → (b t : List ℕ) → b ≡ fresh s → t ≡ store_all page_form b pages_from (map chosen_page (choices_in cs))
     → t ≡ encode (state idle (power_on (choice (choices_in cs))))
-chosen_made cs s l p u a b t ep eu ea eb et =
-    rw (chosen_device (choices_in cs)) (whole-made (map chosen_page (choices_in cs)) refl (chosen_all 8 cs 0) s l p u a b t ep eu ea eb et)
+chosen_made cs s l b t eb et =
+    rw (chosen_device (choices_in cs)) (whole-made (map chosen_page (choices_in cs)) refl (chosen_all 8 cs 0) s l b t eb et)
+
+-- ---- a buffer of another length, and power-on of one, t, that has the right length
+
+module _ (s : List ℕ) (n : length s ≡ size → ⊥) where
+  pub power_refused : (15 ≡ power_gives s) × (s ≡ power_fed s)
+  unfolding power_gives power_fed
+  power_refused = (rw (ne_eqb (length s) size n), rw (ne_eqb (length s) size n))
+
+  pub by-refused : (cs : List ℕ) → (15 ≡ power_by_gives s cs) × (s ≡ power_by_fed s cs)
+  unfolding power_by_gives power_by_fed
+  by-refused cs = (rw (ne_eqb (length s) size n), rw (ne_eqb (length s) size n))
+
+pub power_taken : (s t n : List ℕ) → length s ≡ size → t ≡ s → n ≡ power_fed t → (0 ≡ power_gives s) × (n ≡ power_fed s)
+unfolding power_gives
+power_taken s t n l e f = (rw (eq-eqb (length s) size l), f ∙ ap power_fed e)
 
 -- ---- power-on by choices as bytes: what the test of them says
 
@@ -120,20 +132,29 @@ module _ (cs : List ℕ) where
   unfolding choices_granted
   refused-by e = by_tests ∙ one_failed (eqb (length cs) choices_size) (all_of page_granted (choices_in cs)) _ _ e
 
-  pub granted-long : choices_granted cs ≡ true → length cs ≡ choices_size
-  unfolding choices_granted
-  granted-long e = eqb-true (length cs) choices_size ((and-eq-true_iff (eqb (length cs) choices_size) (all_of page_granted (choices_in cs))).0 e).0
-
-  module _ (s : List ℕ) (l : length s ≡ size) where
-    pub granted-gives : choices_granted cs ≡ true → (t : List ℕ) → t ≡ encode (state idle (power_on (choice (choices_in cs))))
-        → (0 ≡ power_by_gives s cs) × (t ≡ power_by_fed s cs)
+  module _ (s : List ℕ) (l : length s ≡ size) (n : List ℕ) where
+    -- with choices ds that are the granted ones
+    pub granted-gives : (ds : List ℕ) → (choices_granted cs ≡ true) × (ds ≡ cs) → n ≡ encode (state idle (power_on (choice (choices_in ds))))
+        → (0 ≡ power_by_gives s cs) × (n ≡ power_by_fed s cs)
     unfolding power_by_gives power_by_fed
-    granted-gives e t et = (rw (eq-eqb (length s) size l, granted-by e), rw (eq-eqb (length s) size l, granted-by e) et)
+    granted-gives ds e en = (
+      rw (eq-eqb (length s) size l, granted-by e.0),
+      rw (eq-eqb (length s) size l, granted-by e.0) (en ∙ ap (λ (x : List ℕ). encode (state idle (power_on (choice (choices_in x))))) e.1),
+    )
 
-    pub refused-gives : choices_granted cs ≡ false → (t : List ℕ) → t ≡ power_fed s → (27 ≡ power_by_gives s cs) × (t ≡ power_by_fed s cs)
+    pub refused-gives : choices_granted cs ≡ false → (t : List ℕ) → t ≡ s → n ≡ power_fed t → (27 ≡ power_by_gives s cs) × (n ≡ power_by_fed s cs)
     unfolding power_by_gives power_by_fed power_fed
-    refused-gives e t et =
-        (rw (eq-eqb (length s) size l, refused-by e), rw (refused-by e) et)
+    refused-gives e t et en =
+        (rw (eq-eqb (length s) size l, refused-by e), rw (refused-by e) (rw et at en))
+
+  -- the test of them, where they have the right length, and where they have another
+  pub granted-is : (r : Bool) (ds : List ℕ) → IsWholeChunk cs ds choices_size → r ≡ all_of page_granted (choices_in ds) → r ≡ choices_granted cs
+  unfolding choices_granted
+  granted-is r ds w e = rw (eq-eqb (length cs) choices_size w.long) (e ∙ ap (λ (x : List ℕ). all_of page_granted (choices_in x)) w.same)
+
+  pub granted-not : (length cs ≡ choices_size → ⊥) → choices_granted cs ≡ false
+  unfolding choices_granted
+  granted-not l = rw (ne_eqb (length cs) choices_size l)
 
 -- the choice that the device is powered on by, which is one that power-on grants
 pub record ByChoice (cs : List ℕ) : Type 0 where
@@ -154,44 +175,10 @@ by_choice cs =
     })
     (λ n. record { x = usual 8; is_granted = usual-granted 8; same = ap (λ (q : Done). q.device) (refused-by cs n); fits = power_fits })
 
--- ---- the loop that stores a page for each of eight choices: what is left to store gives the whole
-
-module _ (cs s₀ : List ℕ) where
-  abbrev pages : List Page
-  pages = map chosen_page (choices_in cs)
-
-  pub record Choosing (i j k : ℕ) (s : List ℕ) : Type 0 where
-    pub few : i ≤ 8
-    pub choice-is : j ≡ choice_wide * i
-    pub place_is : k ≡ pages_from + page_wide * i
-    pub long : length s ≡ size
-    pub left : store_all page_form s k (drop i (map chosen_page (choices_in cs))) ≡ store_all page_form s₀ pages_from (map chosen_page (choices_in cs))
-
-  pub choosing_first : length s₀ ≡ size → Choosing 0 0 pages_from s₀
-  choosing_first l = record { few = omega arith; choice-is = refl; place_is = refl; long = l; left = refl }
-
-  module _ (i j k : ℕ) (s : List ℕ) (g : Choosing i j k s) where
-    module _ (h : i < 8) (x : PageChoice) (y : Page) (t : List ℕ) (ex : x ≡ choice_form.get cs j) (ey : y ≡ chosen_page x) (et : t ≡ page_form.store s k y) where
-      shaped : Shape y
-      shaped = rw (ey, ex) (chosen_shape cs j)
-
-      t_is : t ≡ page_form.store s (pages_from + page_wide * i) y
-      t_is = et ∙ ap (λ (o : ℕ). page_form.store s o y) g.place_is
-
-      y_is : y ≡ get_or pages i page_form.none
-      y_is =
-          ey ∙ ap chosen_page (ex ∙ ap (choice_form.get cs) g.choice-is ∙ sym (choice-at cs i h usual_page))
-          ∙ sym (get_or-map chosen_page (choices_in cs) i usual_page)
-          ∙ within pages i (chosen_page usual_page) page_form.none h
-
-      pub choosing_turn : Choosing (i + 1) (j + choice_wide) (k + page_wide) t
-      choosing_turn = record {
-        few = omega arith;
-        choice-is = let e = g.choice-is in omega arith;
-        place_is = let e = g.place_is in omega arith;
-        long = rw t_is (page-length s i h g.long y shaped);
-        left = rw (et, y_is, ← wide) (store_step page_form s k i pages h ∙ g.left);
-      }
-
-    pub choosing_end : 8 ≤ i → s ≡ store_all page_form s₀ pages_from (map chosen_page (choices_in cs))
-    choosing_end h = sym (store_end page_form s k i pages h) ∙ g.left
+-- every page by its choice
+pub chosen_mapped : (cs s : List ℕ) → ((k : ℕ) → k < 8 → page_of s k ≡ chosen_page (choice_form.get cs (choice_wide * k)))
+    → pages_in s ≡ map chosen_page (choices_in cs)
+chosen_mapped cs s h =
+    ext_get_or no_page (pages_in s) (map chosen_page (choices_in cs)) refl
+    (λ k m. h k m ∙ ap chosen_page (sym (choice-at cs k m usual_page)) ∙ sym (get_or-map chosen_page (choices_in cs) k usual_page)
+    ∙ within (map chosen_page (choices_in cs)) k (chosen_page usual_page) no_page m)

@@ -5,7 +5,7 @@ use Rattle.page.specs.declared.Page.{Page}
 use Rattle.reads.specs.Reply.{reply_of}
 use Rattle.device.specs.declared.Device.{Device}
 use Rattle.device.specs.declared.Done.{Done}
-use Rattle.device.specs.Device.{device, choice, usual, power_on, power_on_by}
+use Rattle.device.specs.Device.{choice, usual, power_on, power_on_by}
 use Rattle.device.specs.Step.{Call, write, answered, clocked, done, step}
 use Rattle.device.specs.Supply.{supplies_at}
 use Rattle.device.specs.Touches.{touches}

@@ -8,22 +8,19 @@ ghost use Rattle.layout.specs.State.{part_of, device_of};
 ghost use Rattle.buffer.specs.Buffer.{event_fed, event_gives};
 ghost use Rattle.buffer.specs.Private.{Keeping, store_reply};
 
-use super::stopping;
-use layout::leaf::{byte_of, put_bytes};
-use layout::pages;
-use layout::part::{keep, load_part, save_part};
-use layout::state::ready;
-use layout::unpaged_part::load_unpaged;
+use super::{ready_buffer, stopping};
+use answer::Refusal;
+use layout::part::keep;
+use layout::{SIZE, pages, state};
 
 // START: 0, or 15.
 pub fn start(s: &mut [u8]) -> u8
     ensures { (result ≡ event_gives s.old start) × (s.new ≡ event_fed s.old start) }
 {
-    if !ready(s) {
-        return answer::INVALID_STATE;
-    }
-    let q = bus::start();
-    save_part(s, 0, q);
+    let Some(s) = ready_buffer(s) else {
+        return Refusal::InvalidState as u8;
+    };
+    state::set_part(s, bus::start());
     answer::DONE
 }
 
@@ -31,44 +28,43 @@ pub fn start(s: &mut [u8]) -> u8
 pub fn again(s: &mut [u8]) -> u8
     ensures { (result ≡ event_gives s.old again) × (s.new ≡ event_fed s.old again) }
 {
-    if !ready(s) {
-        return answer::INVALID_STATE;
-    }
-    let p = load_part(s, 0);
-    let q = bus::restarted(p);
-    save_part(s, 0, q);
+    let Some(s) = ready_buffer(s) else {
+        return Refusal::InvalidState as u8;
+    };
+    let p = state::part_of(s);
+    state::set_part(s, bus::restarted(p));
     answer::DONE
 }
 
 // ACK or NACK for the byte b.
-fn acknowledged(s: &[u8], b: u8) -> bool
+fn acknowledged(s: &[u8; SIZE], b: u8) -> bool
     requires { Keeping s.now }
     ensures { result ≡ ack_of (part_of s.now) b }
 {
-    let e = 2 + (s[1] as usize);
+    let e = 2 + usize::from(s[1]);
     bus::ack::ack_in(s[0], &s[2..e], b)
 }
 
 // The reply to the bytes kept, of the page shown alone.
-fn reply(s: &[u8]) -> [u8; 8]
+fn reply(s: &[u8; SIZE]) -> [u8; 8]
     requires { Keeping s.now }
     ensures { result ≡ (step (device_of s.now) (read (heard (part_of s.now)) 8)).reply }
 {
-    let u = load_unpaged(s, layout::UNPAGED);
+    let u = state::unpaged_of(s);
     let k = unpaged::shown(u);
     let page = pages::page_at(s, k);
-    let e = 2 + (s[1] as usize);
+    let e = 2 + usize::from(s[1]);
     stream::reply(u, page, &s[2..e])
 }
 
 // The second address byte has come, where that is so: the whole reply is made, and kept.
-fn answer(s: &mut [u8], second: bool)
+fn answer(s: &mut [u8; SIZE], second: bool)
     requires { Keeping s.old }
     ensures { s.new ≡ cond second (store_reply s.old (step (device_of s.old) (read (heard (part_of s.old)) 8)).reply) s.old }
 {
     if second {
-        let bytes = reply(s);
-        put_bytes(s, layout::REPLY, &bytes);
+        let reply = reply(s);
+        state::set_reply(s, reply);
     }
 }
 
@@ -76,26 +72,25 @@ fn answer(s: &mut [u8], second: bool)
 pub fn byte(s: &mut [u8], b: u8) -> u8
     ensures { (result ≡ event_gives s.old (byte b)) × (s.new ≡ event_fed s.old (byte b)) }
 {
-    if !ready(s) {
+    let Some(s) = ready_buffer(s) else {
         return 0;
-    }
+    };
     let ack = acknowledged(s, b);
     let second = s[0] == bus::TURNING;
     keep(s, b);
     answer(s, second);
-    byte_of(ack)
+    u8::from(ack)
 }
 
 // A byte that the host clocks: what is sent.
 pub fn clock(s: &mut [u8]) -> u8
     ensures { (result ≡ event_gives s.old clock) × (s.new ≡ event_fed s.old clock) }
 {
-    if !ready(s) {
-        return 255;
-    }
-    let p = load_part(s, 0);
-    let q = bus::clocked(p);
-    save_part(s, 0, q);
+    let Some(s) = ready_buffer(s) else {
+        return 0xFF;
+    };
+    let p = state::part_of(s);
+    state::set_part(s, bus::clocked(p));
     bus::clock_byte(p)
 }
 
@@ -103,11 +98,10 @@ pub fn clock(s: &mut [u8]) -> u8
 pub fn stop(s: &mut [u8]) -> u8
     ensures { (result ≡ event_gives s.old stop) × (s.new ≡ event_fed s.old stop) }
 {
-    if !ready(s) {
-        return answer::INVALID_STATE;
-    }
-    let p = load_part(s, 0);
-    let q = bus::idle();
-    save_part(s, 0, q);
+    let Some(s) = ready_buffer(s) else {
+        return Refusal::InvalidState as u8;
+    };
+    let p = state::part_of(s);
+    state::set_part(s, bus::idle());
     stopping::ended(s, p)
 }

@@ -8,75 +8,73 @@ ghost use Rattle.buffer.specs.Buffer.{stores, end_stores, store_device};
 ghost use Rattle.buffer.specs.Private.{Held, store_unpaged};
 
 use super::every_page;
+use answer::Refusal;
 use bus::Part;
-use layout::pages;
-use layout::unpaged_part::{load_unpaged, save_unpaged};
+use layout::{SIZE, pages, state};
 
 // A write: the selected page, or every page, and the unpaged part change where they stand.
-fn written(s: &mut [u8], kept: Part) -> u8
+fn written(s: &mut [u8; SIZE], kept: Part) -> u8
     requires { Held s.old }
-    ensures { (result ≡ (step (device_of s.old) (write (heard kept))).done.answer)
-        × (s.new ≡ store_device (stores (device_of s.old) (write (heard kept))) s.old (step (device_of s.old) (write (heard kept))).done.device) }
+    ensures answer { result ≡ (step (device_of s.old) (write (heard kept))).done.answer }
+    ensures left { s.new ≡ store_device (stores (device_of s.old) (write (heard kept))) s.old (step (device_of s.old) (write (heard kept))).done.device }
 {
-    let u = load_unpaged(s, layout::UNPAGED);
+    let u = state::unpaged_of(s);
     let p = pages::page_at(s, u.page);
-    let j = stream::judged(u, kept);
-    let w = j.write;
-    let t = lent::turns::write_left(u, p, j.answer, w);
-    let r = t.outcome;
-    let q = t.page;
-    pages::put_page(s, u.page, r.answer == answer::DONE, q);
-    let rose = every_page::every(s, w, t.every);
-    let standing = every_page::any_bit(s, t.clears);
-    let o = lent::turns::finished(r, t.clears, rose, standing);
-    let v = o.unpaged;
-    save_unpaged(s, layout::UNPAGED, v);
-    o.answer
+    let write = stream::judged(u, kept);
+    let turn = lent::turns::write_left(u, p, write);
+    pages::put_page(s, u.page, turn.outcome.answer == answer::DONE, turn.page);
+    let rose = every_page::rest(s, turn.every);
+    let standing = every_page::any_bit(s, turn.clears);
+    let outcome = lent::turns::finished(turn.outcome, turn.clears, rose, standing);
+    state::set_unpaged(s, outcome.unpaged);
+    outcome.answer
 }
 
 // What an answer leaves that changes no page: at most a bit of STATUS_CML, and the alert.
-fn refuse(s: &mut [u8], answer: u8)
+fn refuse(s: &mut [u8; SIZE], answer: u8)
     requires { Held s.old }
     ensures { s.new ≡ store_unpaged s.old (refused_device (device_of s.old) answer) }
 {
-    let u = load_unpaged(s, layout::UNPAGED);
-    let v = unpaged::refused(u, answer);
-    save_unpaged(s, layout::UNPAGED, v);
+    let u = state::unpaged_of(s);
+    state::set_unpaged(s, unpaged::refused(u, answer));
 }
 
 // A read: its reply was made at the second address byte.
-fn finished(s: &mut [u8], kept: Part) -> u8
+fn finished(s: &mut [u8; SIZE], kept: Part) -> u8
     requires { Held s.old }
-    ensures { (result ≡ (step (device_of s.old) (read (heard kept) kept.clocked)).done.answer)
-        × (s.new ≡ store_unpaged s.old (step (device_of s.old) (read (heard kept) kept.clocked)).done.device) }
+    ensures answer { result ≡ (step (device_of s.old) (read (heard kept) kept.clocked)).done.answer }
+    ensures left { s.new ≡ store_unpaged s.old (step (device_of s.old) (read (heard kept) kept.clocked)).done.device }
 {
-    let u = load_unpaged(s, layout::UNPAGED);
+    let u = state::unpaged_of(s);
     let k = unpaged::shown(u);
     let p = pages::page_at(s, k);
-    let answer = stream::read_answer(u, p, kept);
+    let answer = answer::number(stream::read_answer(u, p, kept));
     refuse(s, answer);
     answer
 }
 
 // Nothing orderly was under way. Answer 2 sets no bit of STATUS_CML.
-fn disordered(s: &mut [u8]) -> u8
+fn disordered(s: &mut [u8; SIZE]) -> u8
     requires { Held s.old }
-    ensures { (result ≡ 2) × (s.new ≡ store_unpaged s.old (device_of s.old)) }
+    ensures answer { result ≡ 2 }
+    ensures left { s.new ≡ store_unpaged s.old (device_of s.old) }
 {
-    refuse(s, answer::MALFORMED);
-    answer::MALFORMED
+    refuse(s, Refusal::Malformed as u8);
+    Refusal::Malformed as u8
 }
 
+// By a slice, as docs/ARCHITECTURE.md and PROMISES.md name it.
 pub fn ended(s: &mut [u8], kept: Part) -> u8
     requires { Held s.old }
     ensures { (result ≡ (ended (device_of s.old) kept).answer)
         × (s.new ≡ store_device (end_stores (device_of s.old) kept) s.old (ended (device_of s.old) kept).device) }
 {
-    if kept.phase == bus::WRITING {
-        return written(s, kept);
+    let Some(s) = s.as_mut_array() else {
+        unreachable!();
+    };
+    match kept.phase {
+        bus::WRITING => written(s, kept),
+        bus::READING => finished(s, kept),
+        _ => disordered(s),
     }
-    if kept.phase == bus::READING {
-        return finished(s, kept);
-    }
-    disordered(s)
 }

@@ -10,8 +10,7 @@ use lib.Dec.{eqb}
 use borrow.Author.Tests.{ltb-false, le-ltb, eqb-true, eqb-false, eq-eqb, ne_eqb}
 use Rattle.laws.proofs.Branches.{either, cond_same}
 use Rattle.laws.specs.Lists.{all_of, any_of}
-use Rattle.command.specs.declared.table.Row.{Row}
-use Rattle.command.specs.Table.{table, row_in, entry_of, lookup}
+use Rattle.command.specs.Table.{Row, table, row_in, entry_of, lookup}
 use Rattle.bus.specs.Ack.{known, room_behind, orderly, acked_first, acked_second, Absent, AbsentExactly, Wrong, wrong_address, absent_code, Refused, after_wrong, other_address, other_code, past_data, RefusedSecond, second_after_wrong, other_second, NackedFirst, NackedSecond}
 
 -- ---- absent codes

@@ -2,8 +2,7 @@
 -- Assumes nothing.
 use Rattle.std.specs.Prelude.{ℕ, ◌+◌, ◌≤◌, ◌≡◌, ◌↔◌, Bool, true, false, cond, ◌&&◌, List, length, get_or, ltb, eqb}
 use Rattle.laws.specs.Lists.{any_of}
-use Rattle.command.specs.declared.table.Row.{Row}
-use Rattle.command.specs.Table.{table, lookup}
+use Rattle.command.specs.Table.{Row, table, lookup}
 use Rattle.bus.specs.declared.Part.{Part}
 use Rattle.bus.specs.Part.{heard, writing, turning}
 

@@ -1,73 +1,73 @@
 // ACK and NACK. The bytes s are those kept of a transaction, b is the byte behind them.
-ghost use Rattle.std.specs.Prelude.{◌≡◌, ◌≤◌, length};
-ghost use Rattle.bus.specs.Ack.{known, room_behind, orderly, acked_first, acked_second, ack_in};
+ghost use Rattle.std.specs.Prelude.{◌≡◌, ◌&&◌, ◌+◌, ltb, length};
+ghost use Rattle.command.specs.Table.{lookup};
+ghost use Rattle.bus.specs.Ack.{known, orderly, acked_first, acked_second, ack_in};
+
+use super::{TURNING, WRITING};
+
+const WRITE_ADDRESS: u8 = 0xC0;
+
+const READ_ADDRESS: u8 = 0xC1;
 
 // The table has the code.
+#[tactic(auto, unfolding(crate::specs::Ack::known))]
 fn known(code: u8) -> bool
     ensures { result ≡ known code }
 {
-    let e = command::lookup(code);
-    e.known
+    command::lookup(code).is_some()
 }
 
-// Data or packet check still have a place behind s.
-fn room_behind(s: &[u8]) -> bool
-    requires { 2 ≤ length s.now }
-    ensures { result ≡ room_behind s.now }
+// Data or packet check of this code still have a place behind n bytes, the address byte and the code among them.
+fn room_behind(code: u8, n: usize) -> bool
+    ensures { result ≡ ((lookup code).known && ltb n ((lookup code).length + 3)) }
 {
-    let e = command::lookup(s[1]);
-    e.known & (s.len() < e.length as usize + 3)
+    match command::lookup(code) {
+        Some(e) => n < usize::from(e.length) + 3,
+        None => false,
+    }
 }
 
 // Before a repeated START.
+#[tactic(auto, unfolding(crate::specs::Ack::acked_first, crate::specs::Ack::room_behind, crate::specs::Ack::known))]
 fn acked_first(s: &[u8], b: u8) -> bool
     ensures { result ≡ acked_first s.now b }
 {
-    if s.len() == 0 {
-        return b == 0xC0;
+    match s {
+        [] => b == WRITE_ADDRESS,
+        [WRITE_ADDRESS] => known(b),
+        [WRITE_ADDRESS, code, ..] => room_behind(*code, s.len()),
+        _ => false,
     }
-    if s[0] != 0xC0 {
-        return false;
-    }
-    if s.len() == 1 {
-        return known(b);
-    }
-    room_behind(s)
 }
 
 // Address and code, where there are any, are right.
+#[tactic(auto, unfolding(crate::specs::Ack::orderly))]
 fn orderly(s: &[u8]) -> bool
     ensures { result ≡ orderly s.now }
 {
-    if s.len() == 0 {
-        return true;
+    match s {
+        [] | [WRITE_ADDRESS] => true,
+        [WRITE_ADDRESS, code, ..] => known(*code),
+        _ => false,
     }
-    if s[0] != 0xC0 {
-        return false;
-    }
-    if s.len() == 1 {
-        return true;
-    }
-    known(s[1])
 }
 
 // The second address byte.
+#[tactic(auto, unfolding(crate::specs::Ack::acked_second))]
 fn acked_second(s: &[u8], b: u8) -> bool
     ensures { result ≡ acked_second s.now b }
 {
-    let right = orderly(s);
-    right & (b == 0xC1)
+    orderly(s) && b == READ_ADDRESS
 }
 
 // ACK for the byte b behind the bytes s, or NACK.
+#[tactic(auto, unfolding(crate::specs::Ack::ack_in))]
 pub fn ack_in(phase: u8, s: &[u8], b: u8) -> bool
     ensures { result ≡ ack_in phase s.now b }
 {
-    if phase == super::WRITING {
-        return acked_first(s, b);
+    match phase {
+        WRITING => acked_first(s, b),
+        TURNING => acked_second(s, b),
+        _ => false,
     }
-    if phase == super::TURNING {
-        return acked_second(s, b);
-    }
-    false
 }

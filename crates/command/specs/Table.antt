@@ -1,9 +1,9 @@
 -- The table of command codes: access and number of data bytes (data sheet 3.1).
 -- Assumes nothing.
-use Rattle.std.specs.Prelude.{ℕ, ◌/◌, ◌%◌, cond, not, List, [], ◌∷◌, eqb}
+use Rattle.std.specs.Prelude.{ℕ, Bool, true, false, cond, not, List, [], ◌∷◌, Option, Some, None, eqb}
 use Rattle.std.specs.Int.Bits.{bit_and}
-use Rattle.command.specs.declared.table.Row.{Row}
-use Rattle.command.specs.declared.table.Entry.{Entry}
+use Rattle.command.specs.declared.table.Access.{Access}
+use Rattle.command.specs.declared.table.Entry.{Entry as Listed}
 
 -- access: none, where the table has no row; read, written, both; or in a process call alone, whose data bytes are then those written in it
 abbrev pub NONE : ℕ
@@ -21,7 +21,16 @@ RW = 3
 abbrev pub P : ℕ
 P = 4
 
--- code, access, data bytes
+abbrev pub access_number : Access → ℕ
+access_number Access.Read = R
+access_number Access.Write = W
+access_number Access.Both = RW
+access_number Access.ProcessCall = P
+
+-- a row: code, access, data bytes
+abbrev pub Row : Type 0
+Row = ℕ × ℕ × ℕ
+
 unfoldable pub table : List Row
 table =
     (0x00, RW, 1)  -- PAGE
@@ -69,11 +78,14 @@ abbrev pub row_in : List Row → ℕ → Row
 row_in [] c = (c, NONE, 0)
 row_in (e ∷ l) c = cond (eqb e.0 c) e (row_in l c)
 
--- a row from one number of four hexadecimal digits: two of the code, one of the access, one of the data bytes
-abbrev pub told : ℕ → Row
-told x = (x / 256, x / 16 % 16, x % 16)
+-- what a row says of its code
+pub record Entry : Type 0 where
+  pub written : Bool
+  pub read : Bool
+  pub length : ℕ
+  pub known : Bool
 
--- what a row says; a code is known where it has an access, whatever the access is
+-- a code is known where it has an access, whatever the access is
 unfoldable pub entry_of : Row → Entry
 entry_of e = record {
   written = not (eqb (bit_and e.1 W) 0);
@@ -85,3 +97,8 @@ entry_of e = record {
 -- what the table says of the code c
 unfoldable pub lookup : ℕ → Entry
 lookup c = entry_of (row_in table c)
+
+-- the same of what a look-up gives: nothing for a code that the table lacks
+abbrev pub listed : Option Listed → Entry
+listed None = record { written = false; read = false; length = 0; known = false }
+listed (Some e) = record { written = e.written; read = e.read; length = e.length; known = true }

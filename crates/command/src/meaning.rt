@@ -1,8 +1,14 @@
-// What a command code means: codes that are alike share a case, and a number tells them apart.
+// What a command code means: codes that are alike share a case, with the limit, the cause, the register or the quantity that they are
+// about.
 ghost use Rattle.std.specs.Prelude.{◌≡◌};
-ghost use Rattle.command.specs.Meaning.{command_of, setting_of, fault_of, reading_of};
+ghost use Rattle.command.specs.Meaning.{command_of, setting_of, fault_of, status_of, reading_of};
 
-#[derive(Clone, Copy)]
+use super::codes::*;
+use cause::{Cause, Limit, Quantity, Register};
+
+// A code that the table lacks is a case here, and no None: whoever goes by the command treats it with those that are not written or not
+// read, and each arm for a code of the table would only gain a Some.
+#[derive(Clone, Copy, PartialEq, Eq)]
 pub enum Command {
     SelectPage,
     Operation,
@@ -11,91 +17,109 @@ pub enum Command {
     Capability,
     VoutMode,
     VoutCommand,
-    // a fault limit and its response: 0 VOUT_OV, 1 IOUT_OC, 2 OT, 3 UT, 4 VIN_OV, 5 VIN_UV;
-    // a warn limit: 6 VOUT_OV, 7 IOUT_OC, 8 OT, 9 VIN_OV, 10 VIN_UV
-    Limit(u8),
-    Response(u8),
+    Limit(Limit),
+    Response(Cause),
     StatusByte,
     StatusWord,
-    // a status register, cleared by writing ones: 0 VOUT, 1 IOUT, 2 INPUT, 3 TEMPERATURE of a page, 4 CML
-    Status(u8),
+    // a status register, cleared by writing ones
+    Status(Register),
+    StatusCml,
     ReadEin,
-    // the latest word of a quantity: 0 VOUT, 1 IOUT, 2 VIN, 3 temperature
-    Reading(u8),
+    // the latest word of a quantity
+    Reading(Quantity),
     Revision,
     Absent,
     Coefficients,
 }
 
 // 00h to 30h: page, operation, protection, output voltage, coefficients
+#[tactic(auto, unfolding(crate::specs::Meaning::setting_of))]
 fn setting_of(code: u8) -> Command
     ensures { result ≡ setting_of code }
 {
     match code {
-        0x00 => Command::SelectPage,
-        0x01 => Command::Operation,
-        0x03 => Command::ClearFaults,
-        0x10 => Command::WriteProtect,
-        0x19 => Command::Capability,
-        0x20 => Command::VoutMode,
-        0x21 => Command::VoutCommand,
-        0x30 => Command::Coefficients,
+        PAGE => Command::SelectPage,
+        OPERATION => Command::Operation,
+        CLEAR_FAULTS => Command::ClearFaults,
+        WRITE_PROTECT => Command::WriteProtect,
+        CAPABILITY => Command::Capability,
+        VOUT_MODE => Command::VoutMode,
+        VOUT_COMMAND => Command::VoutCommand,
+        COEFFICIENTS => Command::Coefficients,
         _ => Command::Absent,
     }
 }
 
 // 40h to 5Ah: the fault limits, their responses and the warn limits
+#[tactic(auto, unfolding(crate::specs::Meaning::fault_of))]
 fn fault_of(code: u8) -> Command
     ensures { result ≡ fault_of code }
 {
     match code {
-        0x40 => Command::Limit(0),
-        0x41 => Command::Response(0),
-        0x42 => Command::Limit(6),
-        0x46 => Command::Limit(1),
-        0x47 => Command::Response(1),
-        0x4A => Command::Limit(7),
-        0x4F => Command::Limit(2),
-        0x50 => Command::Response(2),
-        0x51 => Command::Limit(8),
-        0x53 => Command::Limit(3),
-        0x54 => Command::Response(3),
-        0x55 => Command::Limit(4),
-        0x56 => Command::Response(4),
-        0x57 => Command::Limit(9),
-        0x58 => Command::Limit(10),
-        0x59 => Command::Limit(5),
-        0x5A => Command::Response(5),
+        VOUT_OV_FAULT_LIMIT => Command::Limit(Limit::VoutOvFault),
+        VOUT_OV_FAULT_RESPONSE => Command::Response(Cause::VoutOv),
+        VOUT_OV_WARN_LIMIT => Command::Limit(Limit::VoutOvWarn),
+        IOUT_OC_FAULT_LIMIT => Command::Limit(Limit::IoutOcFault),
+        IOUT_OC_FAULT_RESPONSE => Command::Response(Cause::IoutOc),
+        IOUT_OC_WARN_LIMIT => Command::Limit(Limit::IoutOcWarn),
+        OT_FAULT_LIMIT => Command::Limit(Limit::OtFault),
+        OT_FAULT_RESPONSE => Command::Response(Cause::Ot),
+        OT_WARN_LIMIT => Command::Limit(Limit::OtWarn),
+        UT_FAULT_LIMIT => Command::Limit(Limit::UtFault),
+        UT_FAULT_RESPONSE => Command::Response(Cause::Ut),
+        VIN_OV_FAULT_LIMIT => Command::Limit(Limit::VinOvFault),
+        VIN_OV_FAULT_RESPONSE => Command::Response(Cause::VinOv),
+        VIN_OV_WARN_LIMIT => Command::Limit(Limit::VinOvWarn),
+        VIN_UV_WARN_LIMIT => Command::Limit(Limit::VinUvWarn),
+        VIN_UV_FAULT_LIMIT => Command::Limit(Limit::VinUvFault),
+        VIN_UV_FAULT_RESPONSE => Command::Response(Cause::VinUv),
+        _ => Command::Absent,
+    }
+}
+
+// 78h to 7Eh: the status registers
+#[tactic(auto, unfolding(crate::specs::Meaning::status_of))]
+fn status_of(code: u8) -> Command
+    ensures { result ≡ status_of code }
+{
+    match code {
+        STATUS_BYTE => Command::StatusByte,
+        STATUS_WORD => Command::StatusWord,
+        STATUS_VOUT => Command::Status(Register::Vout),
+        STATUS_IOUT => Command::Status(Register::Iout),
+        STATUS_INPUT => Command::Status(Register::Input),
+        STATUS_TEMPERATURE => Command::Status(Register::Temperature),
+        STATUS_CML => Command::StatusCml,
         _ => Command::Absent,
     }
 }
 
 // 86h to 98h: energy, measured values, revision
+#[tactic(auto, unfolding(crate::specs::Meaning::reading_of))]
 fn reading_of(code: u8) -> Command
     ensures { result ≡ reading_of code }
 {
     match code {
-        0x86 => Command::ReadEin,
-        0x88 => Command::Reading(2),
-        0x8B => Command::Reading(0),
-        0x8C => Command::Reading(1),
-        0x8D => Command::Reading(3),
-        0x98 => Command::Revision,
+        READ_EIN => Command::ReadEin,
+        READ_VIN => Command::Reading(Quantity::Vin),
+        READ_VOUT => Command::Reading(Quantity::Vout),
+        READ_IOUT => Command::Reading(Quantity::Iout),
+        READ_TEMPERATURE_1 => Command::Reading(Quantity::Temperature),
+        PMBUS_REVISION => Command::Revision,
         _ => Command::Absent,
     }
 }
 
 // The command of a code, Absent for one that the table lacks.
+#[tactic(auto, unfolding(crate::specs::Meaning::command_of))]
 pub fn command_of(code: u8) -> Command
     ensures { result ≡ command_of code }
 {
     match code {
-        0x00..=0x30 => setting_of(code),
-        0x40..=0x5A => fault_of(code),
-        0x78 => Command::StatusByte,
-        0x79 => Command::StatusWord,
-        0x7A..=0x7E => Command::Status(code - 0x7A),
-        0x86..=0x98 => reading_of(code),
+        PAGE..=COEFFICIENTS => setting_of(code),
+        VOUT_OV_FAULT_LIMIT..=VIN_UV_FAULT_RESPONSE => fault_of(code),
+        STATUS_BYTE..=STATUS_CML => status_of(code),
+        READ_EIN..=PMBUS_REVISION => reading_of(code),
         _ => Command::Absent,
     }
 }

@@ -2,14 +2,14 @@
 ghost use Rattle.std.specs.Prelude.{◌≡◌};
 ghost use Rattle.command.specs.Paged.{paged};
 
+use super::codes::*;
+
+#[tactic(auto, unfolding(crate::specs::Paged::paged))]
 pub fn is_paged(code: u8) -> bool
     ensures { result ≡ paged code }
 {
-    !((code == 0x00)
-        | (code == 0x10)
-        | (code == 0x19)
-        | (code == 0x20)
-        | (code == 0x7E)
-        | (code == 0x86)
-        | (code == 0x98))
+    !matches!(
+        code,
+        PAGE | WRITE_PROTECT | CAPABILITY | VOUT_MODE | STATUS_CML | READ_EIN | PMBUS_REVISION
+    )
 }

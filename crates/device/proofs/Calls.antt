@@ -2,33 +2,31 @@
 -- Assumes nothing.
 use Prim.Native.Nat.{ℕ, ◌%◌, ◌<◌}
 use mathlib.Core.Path.{◌≡◌, refl, sym, ap, ◌∙◌}
-use mathlib.Core.Bool.{Bool, true, false, cond, or-false, false≢true, and-eq-true_iff}
+use mathlib.Core.Bool.{Bool, true, false, cond, or-false, and-eq-true_iff}
 use mathlib.Core.List.{List}
 use native.Mathlib.Omega.{arith}
 use lib.Dec.{eqb, ltb, leb}
 use lib.ListN.{length, get_or}
 use borrow.Author.Tests.{ltb-true, leb-false, eqb-true}
+use Rattle.std.specs.Prelude.{Result}
+use Rattle.answer.specs.declared.Refusal.{Refusal}
+use Rattle.answer.specs.Answer.{number_of}
 use Rattle.laws.proofs.Branches.{either}
 use Rattle.page.specs.declared.Page.{Page}
 use Rattle.page.specs.Page.{no_page}
 use Rattle.unpaged.specs.Unpaged.{valid_page, every_page, cml_bits, shown}
 use Rattle.unpaged.specs.Events.{measure_answer}
-use Rattle.writes.specs.declared.asked.Write.{Write}
-use Rattle.writes.specs.Asked.{asked}
 use Rattle.reads.specs.declared.request.Request.{Request}
 use Rattle.reads.specs.Request.{request_of}
 use Rattle.reads.specs.Answers.{request_answer, read_answer, answers_data}
 use Rattle.reads.specs.Data.{read_stream}
-use Rattle.reads.specs.Reply.{stream, stream_of, reply_of}
-use Rattle.reads.specs.declared.reply.Stream.{Stream}
-use Rattle.reads.proofs.Streams.{stream-bytes}
-use Rattle.reads.proofs.Fill.{get_d_any as within}
-use Rattle.reads.proofs.Lengths.{stream-length, alert_length}
+use Rattle.reads.specs.Reply.{reply_of}
+use Rattle.std.proofs.lemmas.List.{get_or_default}
 use Rattle.device.specs.declared.Device.{Device}
 use Rattle.device.specs.Device.{device_valid, supported, page_of, page_shown}
-use Rattle.device.specs.Step.{Call, write, read, measure, alert_response, answer_of, answered, written, effect, refused_device, left, sent, clocked, done, step}
-use Rattle.device.proofs.States.{valid_parts, answered-valid, answer-zero}
-use Rattle.device.proofs.Refused.{device-stays}
+use Rattle.device.specs.Step.{Call, read, measure, answer_of, answered, effect, refused_device, left, sent, clocked, done, step}
+use Rattle.device.proofs.States.{valid_parts, answer-zero}
+use Rattle.device.proofs.Refused.{device-stays, refusal-nonzero}
 
 module _ (d : Device) (c : Call) where
   pub answer-made : (valid : Bool) (rule a : ℕ) → valid ≡ device_valid d → rule ≡ answer_of d c → a ≡ cond valid rule 15 → a ≡ answered d c
@@ -39,23 +37,28 @@ module _ (d : Device) (c : Call) where
   unfolding step
   stepped next a e f = rw (f, e)
 
-  -- the reply buffer, by the stream that was sent into it
-  pub replied : (s : Stream) (r : List ℕ) (a : ℕ) → a ≡ answered d c → s ≡ stream (sent d c a)
-      → r ≡ reply_of (stream_of s) (clocked c) → stream_of (stream (sent d c a)) ≡ sent d c a → r ≡ (step d c).reply
-  unfolding step
-  replied s r a e f g h = g ∙ rw (f, h, e)
+  -- what is left by a call that is done, and by one that is refused
+  pub done_left : (next : Device) (a : ℕ) → a ≡ 0 → next ≡ effect d c → next ≡ left d c a
+  unfolding left
+  done_left next a z e = rw z e
 
--- answer 0 is the rule's
-pub rule-zero : (valid : Bool) (rule a : ℕ) → a ≡ cond valid rule 15 → a ≡ 0 → rule ≡ 0
-rule-zero true rule a e z = sym e ∙ z
-rule-zero false rule a e z = absurd (omega arith)
+  pub refused_left : (r : Refusal) (next : Device) (a : ℕ) → a ≡ number_of r → next ≡ refused_device d (number_of r) → next ≡ left d c a
+  unfolding left
+  refused_left r next a n e = rw (n, refusal-nonzero r) e
+
+  -- and a refused one as a whole
+  pub refused_call : (r : Refusal) → number_of r ≡ answered d c → done (refused_device d (number_of r)) (number_of r) ≡ (step d c).done
+  refused_call r e = stepped (refused_device d (number_of r)) (number_of r) e (refused_left r _ _ refl refl)
+
+  pub done_call : (next : Device) → 0 ≡ answered d c → next ≡ effect d c → done next 0 ≡ (step d c).done
+  done_call next z e = stepped next 0 z (done_left next 0 refl e)
+
+  -- the reply buffer, by the bytes that were sent into it
+  pub replied : (s r : List ℕ) (a : ℕ) → a ≡ answered d c → s ≡ sent d c a → r ≡ reply_of s (clocked c) → r ≡ (step d c).reply
+  unfolding step
+  replied s r a e f g = g ∙ rw (f, e)
 
 module _ (d : Device) where
-  -- a write that asks for w where it is accepted
-  pub write_left : (s : List ℕ) (w : Write) (a : ℕ) → (a ≡ 0 → w ≡ asked s) → cond (eqb a 0) (written d w) (refused_device d a) ≡ left d (write s) a
-  unfolding left effect
-  write_left s w a h = either (eqb a 0) (λ y. rw (y, h (eqb-true a 0 y))) (λ n. rw n)
-
   -- PAGE of a valid state
   pub valid_page_lem : device_valid d ≡ true → valid_page (length d.pages) d.unpaged.page ≡ true
   valid_page_lem v = (valid_parts d v).page
@@ -94,10 +97,10 @@ module _ (d : Device) where
       ap (page_of d) same
 
   pub shown-of_any : (q : Page) → device_valid d ≡ true → get_or d.pages (shown d.unpaged) q ≡ page_shown d
-  shown-of_any q v = within d.pages (shown d.unpaged) q no_page (shown-small v)
+  shown-of_any q v = get_or_default d.pages (shown d.unpaged) q no_page (shown-small v)
 
   -- a read that asks for r, of a page p that is the one shown where the state is valid: its answer,
-  module _ (header : List ℕ) (n a : ℕ) (r : Request) (p : Page) (asks : r ≡ request_of header) (is : device_valid d ≡ true → p ≡ page_shown d) where
+  module _ (header : List ℕ) (n a : ℕ) (r : Result Request Refusal) (p : Page) (asks : r ≡ request_of header) (is : device_valid d ≡ true → p ≡ page_shown d) where
     pub read_made : (valid : Bool) (rule : ℕ) → valid ≡ device_valid d → rule ≡ request_answer d.unpaged p r n → a ≡ cond valid rule 15
         → a ≡ answered d (read header n)
     unfolding answered answer_of read_answer
@@ -111,11 +114,3 @@ module _ (d : Device) where
         either (device_valid d)
         (λ y. rw (asks, is y))
         (λ no. let z : a ≡ 15 = e ∙ rw no in rw z)
-
-  pub read_bytes : (header : List ℕ) (n a : ℕ) → stream_of (stream (sent d (read header n) a)) ≡ sent d (read header n) a
-  unfolding sent
-  read_bytes header n a = stream-bytes _ (stream-length d.unpaged (page_shown d) a (request_of header) header)
-
-  pub alert_bytes : (n a : ℕ) → stream_of (stream (sent d (alert_response n) a)) ≡ sent d (alert_response n) a
-  unfolding sent
-  alert_bytes n a = stream-bytes _ (alert_length a)

@@ -3,7 +3,7 @@
 -- Assumes nothing.
 use Prim.Native.Nat.{ℕ, zero, suc, ◌<◌}
 use mathlib.Core.Path.{◌≡◌, refl, ap, ap₂, ◌∙◌}
-use mathlib.Core.Bool.{Bool, true, false, ◌&&◌, ◌||◌, and-eq-true_iff, and-true}
+use mathlib.Core.Bool.{Bool, true, false, ◌||◌, and-eq-true_iff, and-true}
 use mathlib.Core.List.{List, [], ◌∷◌, map}
 use native.Mathlib.Nat.{not-suc-le-zero, le_of_suc-le-suc}
 use lib.Dec.{ltb}
@@ -11,7 +11,6 @@ use lib.ListN.{length, get_or, replicate, length-map, length-replicate}
 use Rattle.laws.specs.Lists.{all_of}
 use Rattle.laws.proofs.Lists.{all_replicate}
 use Rattle.account.specs.Account.{account, account_valid}
-use Rattle.page.specs.declared.Page.{Page}
 use Rattle.page.specs.Page.{power_on_page, no_page}
 use Rattle.page.specs.declared.PageChoice.{PageChoice}
 use Rattle.page.specs.Choice.{usual_page, page_granted, chosen_page}

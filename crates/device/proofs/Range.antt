@@ -10,11 +10,12 @@ use native.Mathlib.Omega.{arith}
 use lib.Dec.{eqb, leb, ltb}
 use lib.ListN.{length, get_or, set, length-set}
 use lib.Seq.{get_or-set_same, get_or-set_other, ext_get_or}
-use borrow.Author.Tests.{eqb-true, eqb-false, eq-eqb, ne_eqb, ltb-true, ltb-false, lt-ltb, le-ltb, le-leb, lt-leb}
+use borrow.Author.Tests.{eqb-true, eqb-false, ltb-true, ltb-false, lt-ltb, le-ltb, le-leb, lt-leb}
 use Rattle.laws.specs.Lists.{map_at, any_pair}
 use Rattle.laws.proofs.Branches.{either}
 use Rattle.laws.proofs.Places.{length-map_at, get_or-map_at, map-kept}
 use Rattle.laws.proofs.Sweeps.{map-every}
+use Rattle.device.specs.Private.{first_of, end_of}
 use Rattle.unpaged.specs.declared.Unpaged.{Unpaged}
 use Rattle.unpaged.specs.Unpaged.{valid_page, acts_on}
 
@@ -89,13 +90,6 @@ module _ {A : Type 0} (d : A) (f : A → A) where
   pair_more p irr (x ∷ l) (z ∷ m) zero y h e s = rw (s, irr x) (or_comm (p x y) (any_pair p l m))
   pair_more p irr (x ∷ l) (z ∷ m) (suc k) y h e s =
       rw (pair_more p irr l m k y (le_of_suc-le-suc h) (omega arith) s) (sym (or_assoc (p x z) (any_pair p l m) (p (get_or l k d) y)))
-
--- the neighbours that a write acts on where PAGE is x
-abbrev pub first_of : ℕ → ℕ
-first_of x = cond (eqb x 0xFF) 0 (x % 8)
-
-abbrev pub end_of : ℕ → ℕ
-end_of x = cond (eqb x 0xFF) 8 (x % 8 + 1)
 
 pub in_order : (x : ℕ) → (first_of x ≤ end_of x) × (end_of x ≤ 8)
 in_order x = either (eqb x 0xFF) (λ e. rw e (omega arith, omega arith)) (λ e. rw e (omega arith, omega arith))

@@ -1,12 +1,11 @@
 -- Valid states, by their parts, and that a call with another answer than 15 came to one.
 -- Assumes nothing.
-use Prim.Native.Nat.{ℕ}
 use mathlib.Core.Path.{◌≡◌, sym, ◌∙◌}
 use mathlib.Core.Bool.{true, ◌&&◌, and-eq-true_iff}
 use native.Mathlib.Omega.{arith}
 use lib.ListN.{length}
 use Rattle.laws.specs.Lists.{all_of}
-use Rattle.laws.proofs.Branches.{either, and_yes}
+use Rattle.laws.proofs.Branches.{either}
 use Rattle.account.specs.Account.{account_valid}
 use Rattle.page.specs.Settings.{page_valid}
 use Rattle.unpaged.specs.Unpaged.{valid_page, valid_protect, unpaged_valid}

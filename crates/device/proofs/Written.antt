@@ -1,7 +1,7 @@
 -- An accepted write changes each page that it acts on, and raises the alert with the bits that rose on any.
 -- Assumes nothing.
 use mathlib.Core.Path.{◌≡◌, sym, ap₂, ◌∙◌}
-use mathlib.Core.Bool.{Bool, true, false, cond, ◌||◌}
+use mathlib.Core.Bool.{Bool, false, cond, ◌||◌}
 use mathlib.Core.List.{List}
 use Rattle.laws.specs.Lists.{any_of, map_at, any_pair}
 use Rattle.laws.proofs.Branches.{either}

@@ -1,10 +1,9 @@
 -- What a call does (data sheet 1.3): from the state handed in, the state handed back, the answer number and what stands in the reply buffer.
 -- A kind of call is one line in each of the definitions `Call`, `answer_of`, `effect`, `sent` and `clocked`.
 -- Assumes nothing.
-use Rattle.std.specs.Prelude.{ℕ, Bool, cond, false, List, [], map, length, eqb}
+use Rattle.std.specs.Prelude.{ℕ, cond, false, List, [], map, length, eqb}
 use Rattle.laws.specs.Lists.{map_at}
 use Rattle.account.specs.Account.{sampled}
-use Rattle.page.specs.declared.Page.{Page}
 use Rattle.page.specs.Causes.{settled, ticked}
 use Rattle.page.specs.Settings.{set_measurement}
 use Rattle.unpaged.specs.Unpaged.{acts_on, refused, with_alert, with_energy}

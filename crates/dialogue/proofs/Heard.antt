@@ -16,12 +16,11 @@ use Rattle.pec.specs.Pec.{pec}
 use Rattle.account.specs.declared.Account.{Account}
 use Rattle.account.specs.Account.{account_valid, ein_bytes}
 use Rattle.account.proofs.Laws.{in_range, reply-back}
-use Rattle.command.specs.Table.{lookup, entry_of}
+use Rattle.command.specs.Table.{Row, lookup, entry_of}
 use Rattle.command.specs.Meaning.{command_of, reading_of}
 use Rattle.command.specs.Agreement.{row_of, TableAgrees}
-use Rattle.command.specs.declared.table.Row.{Row}
 use Rattle.command.specs.declared.meaning.Command.{Command}
-use Rattle.command.specs.declared.meaning.Command.TheVariants.{SelectPage, Operation, ClearFaults, WriteProtect, Capability, VoutMode, VoutCommand, Limit, Response, StatusByte, StatusWord, Status, ReadEin, Reading, Revision, Absent, Coefficients}
+use Rattle.command.specs.declared.meaning.Command.TheVariants.{SelectPage, Operation, ClearFaults, WriteProtect, Capability, VoutMode, VoutCommand, Limit, Response, StatusByte, StatusWord, Status, StatusCml, ReadEin, Reading, Revision, Absent, Coefficients}
 use Rattle.command.proofs.Agreement.{table-agrees}
 use Rattle.page.specs.declared.Page.{Page}
 use Rattle.page.specs.Causes.{weigh}
@@ -106,6 +105,7 @@ module _ (u : Unpaged) (p : Page) (c : ℕ) (rest : List ℕ) where
   again StatusByte r v = refl
   again StatusWord r v = word-again _ _ (status_lt p u.cml)
   again (Status k) r v = refl
+  again StatusCml r v = refl
   again ReadEin r v = ein_again u.energy rest v
   again (Reading q) r v = word-again _ _ (omega arith)
   again Revision r v = refl

@@ -53,7 +53,6 @@ held line n p d h =
 
 -- one more character
 holds_more : (line : List ℕ) (n : ℕ) (p : List ℕ) (c : ℕ) → Holds line n p → Holds (set line n c) (count_of (length line) n 1) (p ++ (c ∷ []))
-unfolding count_of
 holds_more line n p c h = (
   simp length-set h.0,
   ⊎_elim

@@ -1,17 +1,19 @@
 -- Laws of a line that is gathered character by character: what is left of the block gives the whole.
 -- Assumes nothing.
 use Prim.Native.Nat.{ℕ, suc, ◌+◌, ◌<◌, ◌≤◌, min, max}
-use mathlib.Core.Path.{◌≡◌, refl, sym, ap, ◌∙◌}
+use mathlib.Core.Path.{◌≡◌, refl, sym, ap₂, ◌∙◌}
 use mathlib.Core.Bool.{true, false, cond}
 use mathlib.Core.List.{List, [], ◌∷◌}
 use native.Mathlib.Omega.{arith}
 use native.Mathlib.Numerals.{add-one}
 use lib.Dec.{ltb}
-use lib.ListN.{length, get_or, drop, set, drop_of_length-le}
+use lib.ListN.{length, get_or, drop, set, length-set, drop_of_length-le}
 use lib.Seq.{sets, set_out, drop-cons}
 use borrow.Author.Tests.{eq-eqb, ne_eqb, ltb-true, ltb-false}
 use Rattle.laws.proofs.Branches.{either}
-use Rattle.frame.specs.Gather.{up_to, ends, count_of, gathered, gathered_of, whole_of}
+use Rattle.std.proofs.Common.{Option, Some, None}
+use Rattle.frame.specs.declared.gather.Gathered.{Gathered}
+use Rattle.frame.specs.Gather.{up_to, ends, count_of, gathered_of}
 
 -- nothing is stored past the end
 pub sets_out : {A : Type 0} (l : List A) (i : ℕ) (vs : List A) → length l ≤ i → sets l i vs ≡ l
@@ -22,16 +24,13 @@ sets_out l i (v ∷ vs) h =
 
 -- a count of no more characters, and of one and then more
 pub count_none : (room n : ℕ) → count_of room n 0 ≡ n
-unfolding count_of
 count_none room n = omega arith
 
 pub count_more : (room n k : ℕ) → count_of room (count_of room n 1) k ≡ count_of room n (suc k)
-unfolding count_of
 count_more room n k = omega arith
 
 -- the buffer after one character and then a row of them
 pub keep_more : (l : List ℕ) (n c : ℕ) (s : List ℕ) → sets (set l n c) (count_of (length l) n 1) s ≡ sets l n (c ∷ s)
-unfolding count_of
 keep_more l n c s =
     either (ltb n (length l))
     (λ e. let h : n < length l = ltb-true n (length l) e in
@@ -41,43 +40,66 @@ keep_more l n c s =
     let o = set_out l n c h in
     rw o (sets_out l (max n (min (n + 1) (length l + 1))) s (omega arith) ∙ sym (sets_out l (suc n) s (omega arith))))
 
-module _ (room n : ℕ) (b : List ℕ) (i : ℕ) where
-  -- at an LF
-  pub gather_ends : i < length b → get_or b i 0 ≡ 10 → gathered (i + 1) n true ≡ gathered_of room n (drop i b) i
-  unfolding gathered_of up_to ends
-  gather_ends h e =
-      let f : i + 1 ≡ i + 0 + 1 = omega arith in
-      rw (drop-cons b i 0 h, eq-eqb (get_or b i 0) 10 e, count_none) (ap (λ (x : ℕ). gathered x n true) f)
+abbrev pub gathered : ℕ → Option ℕ → Gathered
+gathered n next = record { length = n; next = next }
 
-  -- at another character
-  pub gather_more : i < length b → (get_or b i 0 ≡ 10 → ⊥) → gathered_of room (count_of room n 1) (drop (i + 1) b) (i + 1) ≡ gathered_of room n (drop i b) i
-  unfolding gathered_of up_to ends
-  gather_more h e =
-      let s : List ℕ = drop (suc i) b in
-      let f : suc i + length (up_to s) + cond (ends s) 1 0 ≡ i + suc (length (up_to s)) + cond (ends s) 1 0 = omega arith in
-      rw (add-one, drop-cons b i 0 h, ne_eqb (get_or b i 0) 10 e, count_more) (ap (λ (x : ℕ). gathered x (count_of room n (suc (length (up_to s)))) (ends s)) f)
+-- of the characters s after the first i, which hold no LF, what is left gives the whole
+pub record Gathers (l₀ : List ℕ) (n : ℕ) (s l : List ℕ) (k i : ℕ) : Type 0 where
+  pub room : length l ≡ length l₀
+  pub same_end : ends (drop i s) ≡ ends s
+  pub same_length : i + length (up_to (drop i s)) ≡ length (up_to s)
+  pub same_count : count_of (length l₀) k (length (up_to (drop i s))) ≡ count_of (length l₀) n (length (up_to s))
+  pub same_line : sets l k (up_to (drop i s)) ≡ sets l₀ n (up_to s)
+
+pub gathers_none : {l₀ : List ℕ} {n : ℕ} {s : List ℕ} → Gathers l₀ n s l₀ n 0
+gathers_none = record { room = refl; same_end = refl; same_length = omega arith; same_count = refl; same_line = refl }
+
+module _ {l₀ : List ℕ} {n : ℕ} {s l : List ℕ} {k i : ℕ} (g : Gathers l₀ n s l k i) where
+  module _ (h : i < length s) where
+    here : drop i s ≡ get_or s i 0 ∷ drop (i + 1) s
+    here = rw (add-one, drop-cons s i 0 h)
+
+    -- at another character
+    pub gathers_more : (get_or s i 0 ≡ 10 → ⊥) → Gathers l₀ n s (set l k (get_or s i 0)) (count_of (length l) k 1) (i + 1)
+    unfolding up_to ends
+    gathers_more e =
+        let f = ne_eqb (get_or s i 0) 10 e in
+        let t = drop (i + 1) s in
+        record {
+          room = simp length-set g.room;
+          same_end = rw (here, f) at g.same_end;
+          same_length = let w = rw (here, f) at g.same_length in omega arith;
+          same_count = rw (g.room, count_more) (rw (here, f) at g.same_count);
+          same_line = keep_more l k (get_or s i 0) (up_to t) ∙ (rw (here, f) at g.same_line);
+        }
+
+    -- at an LF
+    pub gathers_line : get_or s i 0 ≡ 10 → (gathered k (Some (i + 1)) ≡ gathered_of (length l₀) n s) × (l ≡ sets l₀ n (up_to s))
+    unfolding gathered_of up_to ends
+    gathers_line e =
+        let f = eq-eqb (get_or s i 0) 10 e in
+        let m : length (up_to s) ≡ i = let w = rw (here, f) at g.same_length in omega arith in
+        let a : ends s ≡ true = sym (rw (here, f) at g.same_end) in
+        let p : k ≡ count_of (length l₀) n (length (up_to s)) = rw (here, f, count_none) at g.same_count in
+        let q : Some (i + 1) ≡ cond (ends s) (Some (suc (length (up_to s)))) None = rw (a, m, add-one) refl in
+        (ap₂ gathered p q, rw (here, f) at g.same_line)
 
   -- at the end of the block
-  pub gather_over : length b ≤ i → gathered i n false ≡ gathered_of room n (drop i b) i
+  pub gathers_open : length s ≤ i → (gathered k None ≡ gathered_of (length l₀) n s) × (l ≡ sets l₀ n (up_to s))
   unfolding gathered_of up_to ends
-  gather_over h =
-      let f : i ≡ i + 0 + 0 = omega arith in
-      rw (drop_of_length-le b h, count_none) (ap (λ (x : ℕ). gathered x n false) f)
+  gathers_open h =
+      let e : drop i s ≡ [] = drop_of_length-le s h in
+      let a : ends s ≡ false = sym (rw e at g.same_end) in
+      let p : k ≡ count_of (length l₀) n (length (up_to s)) = rw (e, count_none) at g.same_count in
+      let q : None ≡ cond (ends s) (Some (suc (length (up_to s)))) None = rw a refl in
+      (ap₂ gathered p q, rw e at g.same_line)
 
-module _ (l : List ℕ) (n : ℕ) (b : List ℕ) (i : ℕ) where
-  pub line_ends : i < length b → get_or b i 0 ≡ 10 → l ≡ sets l n (up_to (drop i b))
-  unfolding up_to
-  line_ends h e = rw (drop-cons b i 0 h, eq-eqb (get_or b i 0) 10 e)
+-- where the LF came, and where it did not
+module _ (room n : ℕ) (s : List ℕ) where
+  pub no_line : (gathered_of room n s).next ≡ None → ends s ≡ false
+  unfolding gathered_of
+  no_line e = either (ends s) (λ t. absurd (cc)) (λ f. f)
 
-  pub line_more : i < length b → (get_or b i 0 ≡ 10 → ⊥) → sets (set l n (get_or b i 0)) (count_of (length l) n 1) (up_to (drop (i + 1) b)) ≡ sets l n (up_to (drop i b))
-  unfolding up_to
-  line_more h e = rw (add-one, drop-cons b i 0 h, ne_eqb (get_or b i 0) 10 e) (keep_more l n (get_or b i 0) (up_to (drop (suc i) b)))
-
-  pub line_over : length b ≤ i → l ≡ sets l n (up_to (drop i b))
-  unfolding up_to
-  line_over h = rw (drop_of_length-le b h)
-
--- the part of the buffer to run is within it
-pub whole_le : (room n : ℕ) → whole_of room n ≤ room
-unfolding whole_of
-whole_le room n = either (ltb room n) (λ e. rw e (omega arith)) (λ e. rw e (ltb-false room n e))
+  pub a_line : (j : ℕ) → (gathered_of room n s).next ≡ Some j → (ends s ≡ true) × (j ≡ suc (length (up_to s)))
+  unfolding gathered_of
+  a_line j e = either (ends s) (λ t. (t, cc)) (λ f. absurd (cc))

@@ -3,15 +3,15 @@
 use Rattle.std.specs.Prelude.{ℕ, ◌+◌, ◌*◌, ◌-◌, ◌/◌, ◌%◌, Bool, cond, ◌&&◌, ◌||◌, List, [], ◌∷◌, ltb, leb}
 
 -- `0` to `9`, 48 to 57, or `a` to `f`, 97 to 102
-unfoldable pub is_digit : ℕ → Bool
+abbrev pub is_digit : ℕ → Bool
 is_digit c = (leb 48 c && leb c 57) || (leb 97 c && leb c 102)
 
 -- the value of a digit
-unfoldable pub digit_of : ℕ → ℕ
+abbrev pub digit_of : ℕ → ℕ
 digit_of c = cond (leb c 57) (c - 48) (c - 97 + 10)
 
 -- the byte of two digits, the high one first
-unfoldable pub byte_of : ℕ → ℕ → ℕ
+abbrev pub byte_of : ℕ → ℕ → ℕ
 byte_of high low = digit_of high * 16 + digit_of low
 
 -- the bytes of a row of digits
@@ -21,7 +21,7 @@ pairs (high ∷ []) = []
 pairs (high ∷ low ∷ s) = byte_of high low ∷ pairs s
 
 -- the digit of a value below 16
-unfoldable pub glyph : ℕ → ℕ
+abbrev pub glyph : ℕ → ℕ
 glyph x = cond (ltb x 10) (48 + x) (97 + (x - 10))
 
 -- the digits of a row of bytes

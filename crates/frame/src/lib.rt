@@ -19,10 +19,11 @@ pub struct LineDone {
 }
 
 // Runs one line, the characters before its LF: the state handed back, and the text at the front of `out`, as far as `out` goes.
+#[tactic(auto, unfolding(crate::specs::Line::line_outcome))]
 pub fn run_line(d: Device, line: &[u8], out: &mut [u8]) -> LineDone
     ensures { Told (line_outcome d line.now) out.old result out.new }
 {
-    let mut bytes = hex::byte_buffer();
-    let n = hex::decode(line, &mut bytes);
-    calls::run_frame(d, &bytes[..n], out)
+    let mut buffer = [0; hex::LINE_BYTES];
+    let bytes = hex::decode(line, &mut buffer);
+    calls::run_frame(d, bytes, out)
 }

@@ -10,7 +10,7 @@ use Rattle.device.specs.declared.Device.{Device}
 use Rattle.device.specs.Device.{alert_risen}
 use Rattle.device.specs.Step.{Call, write, read, measure, alert_response, tick, effect, refused_device, measured, ticked_device}
 use Rattle.history.specs.Run.{next, answer}
-use Rattle.history.proofs.Outcomes.{done_next, refused-next, by_answer, write_next, written-energy}
+use Rattle.history.proofs.Outcomes.{done_next, refused-next, by_answer, written-energy}
 
 abbrev pub energy_of : Device → Account
 energy_of d = d.unpaged.energy

@@ -1,8 +1,8 @@
 -- The alert: it rises with a bit, follows the bits after a clearing, and goes down by an answered alert response.
 -- Assumes nothing.
-use Prim.Native.Nat.{ℕ, ◌<◌}
-use mathlib.Core.Path.{◌≡◌, refl, sym, ap, ap₂, ◌∙◌}
-use mathlib.Core.Logic.{◌⊎◌, inl, inr, ◌↔◌}
+use Prim.Native.Nat.{ℕ}
+use mathlib.Core.Path.{◌≡◌, refl, sym, ap, ◌∙◌}
+use mathlib.Core.Logic.{◌⊎◌, inl, inr}
 use mathlib.Core.Bool.{Bool, true, false, ◌||◌, or-false, or-true, and-eq-true_iff, false≢true}
 use mathlib.Core.List.{List, [], ◌∷◌, map}
 use lib.Dec.{eqb}
@@ -15,7 +15,7 @@ use Rattle.laws.proofs.Places.{pair_same, pair_at, pair_found}
 use Rattle.page.specs.declared.Page.{Page}
 use Rattle.page.specs.Page.{no_page}
 use Rattle.page.specs.Causes.{moved, ticked}
-use Rattle.page.specs.Status.{any, any_status, gains, risen}
+use Rattle.page.specs.Status.{any_status, gains, risen}
 use Rattle.page.proofs.Bits.{gains-found, gains-made, gains-none, any_found, any-made, risen-found, risen-made, risen-none, status_found, status_made}
 use Rattle.unpaged.specs.Unpaged.{refused}
 use Rattle.writes.specs.Asked.{word_of, asked}
@@ -23,7 +23,7 @@ use Rattle.writes.specs.Left.{clearing}
 use Rattle.writes.specs.Accepted.{code_of}
 use Rattle.device.specs.declared.Device.{Device}
 use Rattle.device.specs.Device.{page_of, standing, turned, alert_risen, alert_standing}
-use Rattle.device.specs.Step.{Call, write, read, measure, sample, alert_response, tick, effect, refused_device, written_to, written, measured, ticked_device}
+use Rattle.device.specs.Step.{Call, write, read, measure, sample, alert_response, tick, effect, refused_device, written_to, measured, ticked_device}
 use Rattle.history.specs.Run.{next, answer}
 use Rattle.history.specs.Clearing.{accepted_write, reworks_alert, clearing_call}
 use Rattle.history.specs.Alert.{Turned, Stands, answered_alert, AlertRises, AlertCleared, AlertAnswered}

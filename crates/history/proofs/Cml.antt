@@ -2,7 +2,7 @@
 -- Assumes nothing.
 use Prim.Native.Nat.{ℕ}
 use mathlib.Core.Path.{◌≡◌, refl, sym, ap, ◌∙◌}
-use mathlib.Core.Bool.{Bool, true, false, not, ◌&&◌, ◌||◌, and-true, or-false, false≢true}
+use mathlib.Core.Bool.{Bool, false, not, ◌&&◌, ◌||◌, and-true, or-false, false≢true}
 use mathlib.Core.List.{List}
 use lib.ListN.{get_or}
 use Rattle.laws.specs.Bits.{bit}

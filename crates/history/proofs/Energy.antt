@@ -21,8 +21,8 @@ use Rattle.reads.specs.Request.{plain_of, addressed_of, request_of}
 use Rattle.reads.specs.Answers.{answers_data}
 use Rattle.reads.specs.Data.{read_data, request_data, checked, read_stream}
 use Rattle.device.specs.declared.Device.{Device}
-use Rattle.device.specs.Device.{power_on, device_valid}
-use Rattle.device.specs.Step.{Call, write, read, measure, sample, alert_response, tick, answer_of, answered, effect, sent, step}
+use Rattle.device.specs.Device.{power_on}
+use Rattle.device.specs.Step.{Call, write, read, measure, sample, alert_response, tick, answer_of, effect, sent, step}
 use Rattle.device.proofs.PowerOn.{powered}
 use Rattle.history.specs.Run.{next, answer}
 use Rattle.history.specs.Energy.{Turn, is_energy_reply, part_of, part, log_part, log_after, CopiesOf, TrueCopies, TotalsTrusted}

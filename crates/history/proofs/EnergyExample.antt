@@ -1,11 +1,11 @@
 -- The copies of specs/EnergyExample.antt are true ones, and what the totalizer makes of them, computed.
 -- Assumes nothing.
-use Rattle.std.specs.Prelude.{ℕ, zero, suc, ◌<◌, ◌≤◌, ◌≡◌, refl, ◌⊎◌, Bool, true, false, List, get_or}
+use Rattle.std.specs.Prelude.{ℕ, zero, suc, ◌<◌, ◌≤◌, ◌≡◌, refl, ◌⊎◌, Bool, false, List, get_or}
 use Rattle.std.proofs.Common.{ap, ⊎_elim, arith}
 use Rattle.std.proofs.lemmas.Bool.{false≢true}
 use Rattle.laws.specs.Lists.{Bytes}
 use Rattle.pec.specs.Burst.{bits8, bus_bits, Changed}
-use Rattle.energy.specs.Reply.{changed, AreCopies}
+use Rattle.energy.specs.Reply.{AreCopies}
 use Rattle.energy.specs.Events.{log_copies}
 use Rattle.account.specs.Account.{account_valid, added, sampled, ein_bytes, account_of, energy_reading}
 use Rattle.replies.specs.Replies.{clocked_for, reply_check, check_holds, account_answer, reply_answer}

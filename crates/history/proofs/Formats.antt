@@ -10,10 +10,10 @@ use Rattle.page.specs.declared.PageChoice.{PageChoice}
 use Rattle.page.specs.Causes.{moved, settled, ticked}
 use Rattle.page.specs.Choice.{chosen_page}
 use Rattle.device.specs.declared.Device.{Device}
-use Rattle.device.specs.Device.{Choice, number_of, choice_at, power_on, page_of}
+use Rattle.device.specs.Device.{number_of, choice_at, power_on, page_of}
 use Rattle.device.specs.Step.{Call}
 use Rattle.device.proofs.PowerOn.{powered}
-use Rattle.history.specs.Run.{next, reached, Whole}
+use Rattle.history.specs.Run.{next, Whole}
 use Rattle.history.specs.Clearing.{clears}
 use Rattle.history.specs.Tripping.{untrips}
 use Rattle.history.specs.Retry.{rests}

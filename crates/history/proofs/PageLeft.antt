@@ -10,6 +10,7 @@ use lib.Seq.{get_or-set_other}
 use borrow.Author.Tests.{eqb-true, eqb-false}
 use Rattle.laws.specs.Bits.{bit}
 use Rattle.laws.proofs.Branches.{either}
+use Rattle.cause.specs.Kinds.{cause_number, limit_number}
 use Rattle.retry.proofs.Side.{rest_same}
 use Rattle.page.specs.declared.Page.{Page}
 use Rattle.page.specs.Page.{resting}
@@ -83,7 +84,7 @@ module _ (p : Page) where
     formats = refl;
   }
 
-  responded : (m x : ℕ) → Changed p (set_response p m x) (λ j k. false) false (rests_setting (Setting.Response m x))
+  responded : (m x : ℕ) → Changed p (set_response p m x) (λ j k. false) false (λ k. eqb k (m % 6))
   unfolding set_response
   responded m x = record {
     bits = λ j k h. sym (and-true (status_bit p j k));
@@ -99,8 +100,8 @@ module _ (p : Page) where
   unfolding applied set_vout_command set_limit
   changed-setting (Setting.Operation x) = operated x
   changed-setting (Setting.VoutCommand w) = plain p (set_vout_command p w) refl refl refl refl (λ g. command_ready p g w) refl
-  changed-setting (Setting.Limit k w) = plain p (set_limit p k w) refl refl refl refl (λ g. limit-ready p g k w) refl
-  changed-setting (Setting.Response k x) = responded k x
+  changed-setting (Setting.Limit l w) = let k = limit_number l in plain p (set_limit p k w) refl refl refl refl (λ g. limit-ready p g k w) refl
+  changed-setting (Setting.Response k x) = responded (cause_number k) x
 
   cleared-bits : (ms : List ℕ) → Changed p (clear_bits p ms) (λ j k. bit (get_or ms j 0) k) false (λ k. false)
   unfolding clear_bits

@@ -2,17 +2,17 @@
 -- Assumes nothing.
 use Prim.Native.Nat.{ℕ, zero, suc, ◌<◌}
 use mathlib.Core.Path.{◌≡◌, refl, sym, ap, ap₂, ◌∙◌}
-use mathlib.Core.Bool.{true, false, cond, ◌&&◌, and-eq-true_iff}
+use mathlib.Core.Bool.{true, false, ◌&&◌, and-eq-true_iff}
 use mathlib.Core.List.{List, [], ◌∷◌, map}
 use native.Mathlib.Omega.{arith}
-use lib.Dec.{eqb, ltb, ltb→lt}
+use lib.Dec.{ltb, ltb→lt}
 use lib.ListN.{length, get_or, replicate, get_or-map}
 use borrow.Author.Tests.{ltb-true}
 use Rattle.laws.proofs.Every.{each, agree-test}
 use Rattle.account.specs.Account.{ein_bytes}
 use Rattle.cause.specs.Causes.{causes, warnings}
 use Rattle.command.specs.Table.{table, entry_of, lookup}
-use Rattle.command.specs.Meaning.{command_of, setting_of, fault_of, reading_of}
+use Rattle.command.specs.Meaning.{command_of, setting_of, fault_of, status_of, reading_of}
 use Rattle.command.specs.Paged.{paged}
 use Rattle.page.specs.declared.Page.{Page}
 use Rattle.page.specs.Page.{power_on_page, no_page}
@@ -25,13 +25,13 @@ use Rattle.unpaged.specs.Events.{alert_answer}
 use Rattle.reads.specs.Data.{status_register, read_data}
 use Rattle.reads.specs.Reply.{alert_stream}
 use Rattle.device.specs.declared.Device.{Device}
-use Rattle.device.specs.Device.{device, usual, supported, power_on, device_valid, page_shown}
+use Rattle.device.specs.Device.{usual, supported, power_on, device_valid, page_shown}
 use Rattle.device.specs.Step.{alert_response, answer_of, sent, step}
 use Rattle.device.proofs.States.{answered-of}
 use Rattle.device.proofs.PowerOn.{usual-granted, usual-device, powered, powered-valid}
 use Rattle.history.specs.Run.{answer}
 use Rattle.history.specs.ReadBack.{Reads}
-use Rattle.history.specs.PowerOnReads.{at_power_on, row_at, JustOn, PowerOnReads}
+use Rattle.history.specs.PowerOnReads.{at_power_on, row_at, PowerOnReads}
 use Rattle.history.proofs.ReadBack.{reads_data}
 
 -- ---- the rows
@@ -41,7 +41,7 @@ read_of r = read_data power_on_unpaged power_on_page (command_of r.0)
 
 every_row : map read_of at_power_on ≡ map (λ r. r.1) at_power_on
 unfolding
-    read_data status_register reading status_byte status_high supplies weigh ein_bytes command_of setting_of fault_of reading_of power_on_page power_on_unpaged
+    read_data status_register reading status_byte status_high supplies weigh ein_bytes command_of setting_of fault_of status_of reading_of power_on_page power_on_unpaged
     causes warnings
 every_row = refl
 

@@ -1,8 +1,7 @@
 -- Answer 15 by fields: the lists of `page` and `unpaged` put together.
 -- Assumes nothing.
-use Prim.Native.Nat.{ℕ}
-use mathlib.Core.Path.{◌≡◌, refl, ap, ap₂, ◌∙◌}
-use mathlib.Core.Bool.{Bool, not, ◌&&◌}
+use mathlib.Core.Path.{◌≡◌, refl, ap₂, ◌∙◌}
+use mathlib.Core.Bool.{Bool, ◌&&◌}
 use mathlib.Core.List.{List, [], ◌∷◌}
 use lib.ListN.{length}
 use Rattle.laws.specs.Lists.{all_of}
@@ -12,7 +11,6 @@ use Rattle.page.specs.ValidFields.{page_tests, all_hold, PageValidByField}
 use Rattle.page.proofs.ValidFields.{page-valid-by_field}
 use Rattle.unpaged.specs.ValidFields.{UnpagedValidByField}
 use Rattle.unpaged.proofs.ValidFields.{unpaged-valid-by_field}
-use Rattle.device.specs.declared.Device.{Device}
 use Rattle.device.specs.Device.{supported, device_valid}
 use Rattle.history.specs.Valid.{Fifteen}
 use Rattle.history.specs.ValidFields.{FifteenByField}

@@ -1,6 +1,6 @@
 -- What a call with answer 0 leaves as it was, field by field. Refusals.antt says the same of every other answer.
 -- Assumes nothing.
-use Rattle.std.specs.Prelude.{ℕ, ◌<◌, ◌≡◌, List, length}
+use Rattle.std.specs.Prelude.{ℕ, ◌<◌, ◌≡◌, length}
 use Rattle.page.specs.declared.Page.{Page}
 use Rattle.page.specs.Status.{reading}
 use Rattle.writes.specs.Accepted.{code_of}

@@ -1,6 +1,6 @@
 -- Answer 15 (data sheet 12.2), and that no call of a run gets it (data sheet 12.5).
 -- Assumes nothing.
-use Rattle.std.specs.Prelude.{ℕ, ◌≡◌, true, not, List, eqb}
+use Rattle.std.specs.Prelude.{◌≡◌, true, not, List, eqb}
 use Rattle.device.specs.declared.Device.{Device}
 use Rattle.device.specs.Device.{Choice, number_of, granted, device_valid}
 use Rattle.device.specs.Step.{Call}

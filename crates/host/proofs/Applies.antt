@@ -14,8 +14,7 @@ use Rattle.replies.specs.Replies.{clocked_for}
 use Rattle.replies.specs.Applies.{RepliesApply}
 use Rattle.replies.proofs.Applies.{replies_apply}
 use Rattle.host.specs.declared.build.Built.{Built}
-use Rattle.host.specs.Build.{write_frame, read_count, number_answer, write_form, read_form, place_answer, built}
-use Rattle.host.specs.Build.{built_at, write_built, read_built}
+use Rattle.host.specs.Build.{write_frame, read_count, number_answer, write_form, read_form, built}
 use Rattle.host.specs.Parse.{is_account, parse_answer}
 use Rattle.host.specs.Applies.{due, write_size, given, WritesApply, ReadsApply, ParsesApply}
 use Rattle.host.proofs.Frames.{frame_length}
@@ -58,14 +57,14 @@ module _ (n count : ℕ) where
   read_chain true false = refl
 
 pub writes_apply : WritesApply
-unfolding WritesApply write_built built_at write_form number_answer place_answer
+unfolding WritesApply write_form number_answer
 writes_apply room place code bytes check =
     let n = write_size bytes check in
     rw (frame_size code bytes check, over (place + n) room)
     (write_chain n 0 (lookup code).written (ltb (length bytes) (due code)) (ltb (due code) (length bytes)) (ltb room (place + n)))
 
 pub reads_apply : ReadsApply
-unfolding ReadsApply read_built built_at read_form place_answer
+unfolding ReadsApply read_form
 reads_apply room place code check =
     rw (count_size code check, over (place + 3) room)
     (read_chain 3 (cond check (due code + 1) (due code)) (lookup code).read (ltb room (place + 3)))

@@ -69,7 +69,7 @@ module _ (s : List ℕ) where
       ap₂ (λ (x y : ℕ). reply 0 0 0 (account x (get_or s 3 0) y)) e f
 
 pub fields_read : FieldsRead
-unfolding FieldsRead refused_reply
+unfolding FieldsRead
 fields_read code check s =
     record {
       refused = refused code check s;

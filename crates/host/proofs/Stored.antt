@@ -13,7 +13,7 @@ use Rattle.laws.proofs.Branches.{either}
 use Rattle.pec.specs.Pec.{pec}
 use Rattle.replies.specs.Replies.{read_header}
 use Rattle.host.specs.declared.build.Built.{Built}
-use Rattle.host.specs.Build.{write_frame, read_count, write_form, read_form, built_at, write_built, read_built, placed}
+use Rattle.host.specs.Build.{write_frame, read_count, write_form, read_form, built_at, placed}
 use Rattle.host.specs.Applies.{write_size}
 use Rattle.host.specs.Stored.{Kept, WritesStored, ReadsStored}
 use Rattle.host.proofs.Frames.{placed-none, placed-there, at_form, at_room}
@@ -127,7 +127,7 @@ two_more : (j : ℕ) → 2 + j ≡ suc (suc j)
 two_more j = omega arith
 
 pub writes_stored : WritesStored
-unfolding WritesStored write_built
+unfolding WritesStored
 writes_stored buffer place code bytes check =
     let form = write_form code (length bytes) in
     let frame = write_frame code bytes check in
@@ -145,7 +145,7 @@ writes_stored buffer place code bytes check =
     )
 
 pub reads_stored : ReadsStored
-unfolding ReadsStored read_built
+unfolding ReadsStored
 reads_stored buffer place code check =
     let form = read_form code in
     let at = stored form place (read_count code check) buffer (read_header code) in (

@@ -1,11 +1,13 @@
 -- The transactions that a host builds: the bytes of a write, the header and the count of a read, and where they stand in the host's buffer.
 -- Assumes nothing.
-use Rattle.std.specs.Prelude.{ℕ, ◌+◌, Bool, cond, List, [], ◌∷◌, ◌++◌, ltb, leb, eqb, length, take, drop}
+use Rattle.std.specs.Prelude.{ℕ, ◌+◌, Bool, cond, List, [], ◌∷◌, ◌++◌, ltb, leb, eqb, length, take, drop, Result, Ok, Err}
+use Rattle.answer.specs.declared.Refusal.{Refusal}
+use Rattle.answer.specs.Answer.{number_of}
 use Rattle.pec.specs.Pec.{pec}
-use Rattle.command.specs.declared.table.Entry.{Entry}
-use Rattle.command.specs.Table.{lookup}
+use Rattle.command.specs.Table.{Entry, lookup}
 use Rattle.replies.specs.Replies.{write_address, read_header, clocked_for}
 use Rattle.host.specs.declared.build.Built.{Built}
+use Rattle.host.specs.declared.build.Frame.{Frame}
 
 -- ---- the bytes
 
@@ -41,7 +43,7 @@ unfoldable pub read_form : ℕ → ℕ
 read_form code = row_read_form (lookup code)
 
 -- 26 where a frame of n bytes does not fit into `room` bytes from the place on
-unfoldable pub place_answer : ℕ → ℕ → ℕ → ℕ
+abbrev pub place_answer : ℕ → ℕ → ℕ → ℕ
 place_answer room place n = cond (leb (place + n) room) 0 26
 
 -- ---- what is handed back
@@ -49,19 +51,24 @@ place_answer room place n = cond (leb (place + n) room) 0 26
 abbrev pub built : ℕ → ℕ → ℕ → Built
 built answer n count = record { answer = answer; length = n; count = count }
 
+-- of a frame, or of why there is none
+abbrev pub built_of : Result Frame Refusal → Built
+built_of (Ok frame) = built 0 frame.length frame.count
+built_of (Err refusal) = built (number_of refusal) 0 0
+
 -- for a frame of n bytes and a count to clock, where the form gets this answer; both numbers are 0 under a refusal
-unfoldable pub built_at : ℕ → ℕ → ℕ → ℕ → ℕ → Built
+abbrev pub built_at : ℕ → ℕ → ℕ → ℕ → ℕ → Built
 built_at form room place n count =
     cond (eqb form 0) (cond (eqb (place_answer room place n) 0) (built 0 n count) (built (place_answer room place n) 0 0)) (built form 0 0)
 
-unfoldable pub write_built : ℕ → ℕ → ℕ → List ℕ → Bool → Built
+abbrev pub write_built : ℕ → ℕ → ℕ → List ℕ → Bool → Built
 write_built room place code bytes check =
     built_at (write_form code (length bytes)) room place (length (write_frame code bytes check)) 0
 
-unfoldable pub read_built : ℕ → ℕ → ℕ → Bool → Built
+abbrev pub read_built : ℕ → ℕ → ℕ → Bool → Built
 read_built room place code check = built_at (read_form code) room place (length (read_header code)) (read_count code check)
 
 -- the buffer afterwards: the frame from the place on, every byte before it and behind it as it was; under a refusal every byte (data sheet
 -- 18.5)
-unfoldable pub placed : Built → List ℕ → ℕ → List ℕ → List ℕ
+abbrev pub placed : Built → List ℕ → ℕ → List ℕ → List ℕ
 placed r buffer place frame = cond (eqb r.answer 0) (take place buffer ++ frame ++ drop (place + length frame) buffer) buffer

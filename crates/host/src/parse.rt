@@ -1,15 +1,16 @@
 // Replies read into their fields.
-ghost use Rattle.std.specs.Prelude.{◌≡◌, ◌+◌, ◌*◌, get_or};
-ghost use Rattle.account.specs.Account.{account, account_of};
-ghost use Rattle.host.specs.Parse.{is_account, row_parse_answer, reply, refused_reply, fields_of, parsed};
+ghost use Rattle.std.specs.Prelude.{◌≡◌, get_or, IfOk};
+ghost use Rattle.answer.specs.Answer.{answer_of};
+ghost use Rattle.command.specs.Table.{lookup};
+ghost use Rattle.host.specs.Parse.{parse_answer, fields_of, parsed, reply_of};
 
+use super::build;
 use account::Account;
-use command::Entry;
+use answer::Refusal;
+use command::codes;
 
-// The code whose data are an account.
-const READ_EIN: u8 = 0x86;
-
-// 0 or what speaks against the reply; and what it says: a byte, a word or an account. The other fields are 0, and under a refusal all are.
+// For C, side by side: 0 or what speaks against the reply; and what it says, a byte, a word or an account. The other fields are 0, under a
+// refusal all.
 #[repr(C)]
 #[derive(Clone, Copy)]
 pub struct Reply {
@@ -19,111 +20,78 @@ pub struct Reply {
     pub account: Account,
 }
 
-fn is_account(code: u8) -> bool
-    ensures { result ≡ is_account code }
-{
-    code == READ_EIN
-}
-
-// What speaks against a reply to a read of the code, of which the table says e, or 0.
-fn parse_answer(e: Entry, code: u8, check: bool, s: &[u8]) -> u8
-    ensures { result ≡ row_parse_answer e code check s.now }
-{
-    if !e.read {
-        return answer::UNSUPPORTED_COMMAND;
-    }
-    replies::reply_answer(code, e.length, check, is_account(code), s)
-}
-
-fn no_account() -> Account
-    ensures { result ≡ account 0 0 0 }
-{
-    Account {
+// Answer 0 and no field.
+const EMPTY: Reply = Reply {
+    answer: answer::DONE,
+    byte: 0,
+    word: 0,
+    account: Account {
         accumulator: 0,
         rollover: 0,
         count: 0,
+    },
+};
+
+// What a reply says.
+#[derive(Clone, Copy)]
+enum Fields {
+    Byte(u8),
+    Word(u16),
+    Account(Account),
+}
+
+impl From<Result<Fields, Refusal>> for Reply {
+    ghost from_gives = { λ fields reply. reply ≡ reply_of fields };
+
+    fn from(fields: Result<Fields, Refusal>) -> Reply {
+        match fields {
+            Ok(Fields::Byte(byte)) => Reply { byte, ..EMPTY },
+            Ok(Fields::Word(word)) => Reply { word, ..EMPTY },
+            Ok(Fields::Account(account)) => Reply { account, ..EMPTY },
+            Err(refusal) => Reply {
+                answer: refusal.into(),
+                ..EMPTY
+            },
+        }
     }
 }
 
-fn refused(answer: u8) -> Reply
-    ensures { result ≡ refused_reply answer }
-{
-    let a = no_account();
-    Reply {
-        answer: answer,
-        byte: 0,
-        word: 0,
-        account: a,
-    }
-}
-
-fn byte_reply(x: u8) -> Reply
-    ensures { result ≡ reply 0 x 0 (account 0 0 0) }
-{
-    let a = no_account();
-    Reply {
-        answer: answer::DONE,
-        byte: x,
-        word: 0,
-        account: a,
-    }
-}
-
-fn word_reply(low: u8, high: u8) -> Reply
-    ensures { result ≡ reply 0 0 (low + high * 256) (account 0 0 0) }
-{
-    let a = no_account();
-    Reply {
-        answer: answer::DONE,
-        byte: 0,
-        word: (low as u16) + (high as u16) * 256,
-        account: a,
-    }
-}
-
-fn account_reply(s: &[u8]) -> Reply
-    ensures { result ≡ reply 0 0 0 (account_of s.now) }
-{
-    let a = account::account_from(s);
-    Reply {
-        answer: answer::DONE,
-        byte: 0,
-        word: 0,
-        account: a,
-    }
-}
-
-// The byte at a place, 0 past the end.
+// The byte at a place, 0 past the end. (`account` has its own: one call of the library each.)
 fn byte_at(s: &[u8], i: usize) -> u8
     ensures { result ≡ get_or s.now i 0 }
 {
-    if i < s.len() {
-        return s[i];
-    }
-    0
+    s.get(i).copied().unwrap_or(0)
 }
 
-// The fields of a reply with k data bytes.
-fn fields(k: u8, s: &[u8]) -> Reply
-    ensures { result ≡ fields_of k s.now }
+// The number of data bytes of a reply to a read of the code, clocked with or without the packet check.
+#[tactic(auto, unfolding(crate::specs::Parse::parse_answer, crate::specs::Parse::is_account, crate::specs::Build::read_form))]
+fn reply_length(code: u8, check: bool, s: &[u8]) -> Result<u8, Refusal>
+    ensures answer { answer_of result ≡ parse_answer code check s.now }
+    ensures length { IfOk result (λ n. n ≡ (lookup code).length) }
 {
-    if k == 1 {
-        return byte_reply(byte_at(s, 0));
+    let length = build::read_length(code)?;
+    replies::reply_answer(code, length, check, code == codes::READ_EIN, s)?;
+    Ok(length)
+}
+
+// What the data bytes of a reply say, by their number.
+#[tactic(auto, unfolding(crate::specs::Parse::fields_of))]
+fn fields_of(length: u8, s: &[u8]) -> Fields
+    ensures { reply_of (Ok result) ≡ fields_of length s.now }
+{
+    match length {
+        1 => Fields::Byte(byte_at(s, 0)),
+        2 => Fields::Word(u16::from_le_bytes([byte_at(s, 0), byte_at(s, 1)])),
+        _ => Fields::Account(account::account_from(s)),
     }
-    if k == 2 {
-        return word_reply(byte_at(s, 0), byte_at(s, 1));
-    }
-    account_reply(s)
 }
 
 // A reply to a read of the code, clocked with or without the packet check.
+#[tactic(auto, unfolding(crate::specs::Parse::parsed))]
 pub fn parse(code: u8, check: bool, s: &[u8]) -> Reply
     ensures { result ≡ parsed code check s.now }
 {
-    let e = command::lookup(code);
-    let answer = parse_answer(e, code, check, s);
-    if answer != answer::DONE {
-        return refused(answer);
-    }
-    fields(e.length, s)
+    reply_length(code, check, s)
+        .map(|length| fields_of(length, s))
+        .into()
 }

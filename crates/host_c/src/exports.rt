@@ -62,8 +62,8 @@ pub extern "C" fn tongsorrel_host_totalizer_take(t: Totalizer, code: u8, reply: 
     host::exports::tongsorrel_host_totalizer_take(t, code, reply)
 }
 
-// The layout of `Built`, `Reply`, `Totalizer`, `Taken` and `Converted` has a number, which stands in this name: a program made for another does
-// not link.
+// The layout of `Built`, `Reply`, `Totalizer`, `Taken` and `Converted` has a number, which stands in this name: a program made for another
+// does not link.
 #[unsafe(no_mangle)]
 pub extern "C" fn tongsorrel_host_layout_2() -> u32
     ensures { result ≡ 2 }

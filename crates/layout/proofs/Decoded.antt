@@ -2,7 +2,7 @@
 -- Assumes nothing.
 use Prim.Native.Nat.{ℕ}
 use mathlib.Core.Path.{◌≡◌, refl, ap}
-use mathlib.Core.Bool.{Bool, false, ◌&&◌}
+use mathlib.Core.Bool.{Bool, false, ◌&&◌, and_assoc}
 use mathlib.Core.List.{List}
 use lib.ListN.{length}
 use borrow.Author.Tests.{eq-eqb, ne_eqb}
@@ -39,11 +39,9 @@ module _ (s : List ℕ) where
   unfolding device_valid supported
   device-valid = rw device-is
 
-  pub valid_made : (part unpaged pages : Bool)
-      → part ≡ part_valid (part_form.get s 0) → unpaged ≡ unpaged_valid 8 (unpaged_form.get s unpaged_at) → pages ≡ all_of page_valid (pages_in s)
-      → (part && (unpaged && pages)) ≡ state_valid (decode s)
+  pub state-tests : (part_valid (part_form.get s 0) && unpaged_valid 8 (unpaged_form.get s unpaged_at) && all_of page_valid (pages_in s)) ≡ state_valid (decode s)
   unfolding state_valid
-  valid_made part unpaged pages a b c = rw (a, b, c, device-valid, part-of)
+  state-tests = rw (device-valid, part-of) (and_assoc (part_valid (part_form.get s 0)) _ _)
 
   pub ready_made : length s ≡ size → (r : Bool) → r ≡ state_valid (decode s) → r ≡ ready s
   unfolding ready

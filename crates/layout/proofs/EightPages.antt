@@ -5,13 +5,10 @@ use mathlib.Core.Path.{◌≡◌, refl, sym, ap, ◌∙◌}
 use mathlib.Core.List.{List}
 use native.Mathlib.Omega.{arith}
 use lib.ListN.{length, get_or, set}
-use Rattle.value.specs.declared.format.Format.{Format}
-use Rattle.value.specs.Format.{linear_format}
 use Rattle.page.specs.declared.Page.{Page}
 use Rattle.page.specs.declared.PageChoice.{PageChoice}
-use Rattle.layout.specs.Form.{store_all}
 use Rattle.layout.specs.Layout.{part_form, account_form, unpaged_form, format_form, page_form, device_form, state_form, pages_in, page_wide, pages_from, size, choice_form, choice_wide, choices_in}
-use Rattle.layout.proofs.Laws.{three-stored, page-back, choice-back}
+use Rattle.layout.proofs.Laws.{page-back, choice-back}
 use Rattle.layout.proofs.Places.{page-local, choice-local, store_length, get_at, array-set}
 use Rattle.layout.proofs.Shapes.{Shape, shape_fits, got_shape}
 
@@ -49,16 +46,6 @@ module _ (s : List ℕ) (k : ℕ) (h : k < 8) where
 
     pub page-length : length (page_form.store s (pages_from + page_wide * k) q) ≡ size
     page-length = store_length page_form page-back s (pages_from + page_wide * k) q (shape_fits q g) room ∙ l
-
-pub format_wide : format_form.width ≡ 6
-unfolding format_form
-format_wide = refl
-
--- three formats, stored one by one
-pub three_made : (s : List ℕ) (o : ℕ) (fs : List Format) (a b t : List ℕ) → length fs ≡ 3
-    → a ≡ format_form.store s o (get_or fs 0 linear_format) → b ≡ format_form.store a (o + 6) (get_or fs 1 linear_format)
-    → t ≡ format_form.store b (o + 6 + 6) (get_or fs 2 linear_format) → t ≡ store_all format_form s o fs
-three_made s o fs a b t e ea eb et = rw (three-stored s o fs e, format_wide, et, eb, ea)
 
 pub choice-wide : choice_form.width ≡ choice_wide
 unfolding choice_form format_form

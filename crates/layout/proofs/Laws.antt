@@ -1,16 +1,17 @@
 -- Decoding what was encoded gives it back, wherever it stands.
 -- Assumes nothing.
-use Prim.Native.Nat.{ℕ, suc, ◌+◌, ◌*◌, ◌/◌, ◌%◌, ◌<◌, ◌≤◌}
+use Prim.Native.Nat.{ℕ, zero, suc, ◌+◌, ◌-◌, ◌*◌, ◌/◌, ◌%◌, ◌<◌, ◌≤◌}
 use mathlib.Core.Path.{◌≡◌, refl, sym, ap, ap₂, ◌∙◌}
 use mathlib.Core.Bool.{Bool, true, false, cond, not}
 use mathlib.Core.List.{List, [], ◌∷◌, ◌++◌, append_assoc}
 use native.Mathlib.Omega.{arith}
 use native.Mathlib.Numerals.{add-one}
 use lib.ListN.{length, get_or, set, take, drop, length-append, length-drop, take-append-drop, drop_of_length-le}
-use lib.Seq.{get_or-append_seam, get_or-append-add, set-append_seam, append_snoc, length-take-le, drop-cons}
+use lib.Seq.{get_or-append_seam, get_or-append-add, set-append_seam, append_snoc, length-take-le, drop-cons, take-length}
+use Rattle.std.proofs.lemmas.List.{take_more_set}
 use lib.Dec.{eqb}
+use Rattle.laws.specs.Lists.{all_of}
 use Rattle.value.specs.declared.format.Format.{Format}
-use Rattle.value.specs.Format.{linear_format}
 use Rattle.unpaged.specs.declared.Unpaged.{Unpaged}
 use Rattle.layout.specs.Form.{Form, store_byte, store_word, store_mark, octet, word, mark, both, array, via, put_all, get_all, store_all, FitAll}
 use Rattle.layout.specs.Layout.{part_fields, part_to, part_from, part_form, long_to, long_from, long, account_fields, account_to, account_from, account_form, unpaged_fields, unpaged_to, unpaged_from, unpaged_form, format_to, format_from, format_fields, format_form, formats_form, setting_fields, value_fields, page_to, page_from, page_fields, page_form, device_to, device_from, device_form, state_to, state_from, state_form, choice_to, choice_from, choice_fields, choice_form}
@@ -106,6 +107,30 @@ module _ {A B : Type 0} (f : Form A) (g : Form B) (kf : Back f) (kg : Back g) wh
   }
 
 module _ {A : Type 0} (f : Form A) where
+  -- one element more of an array that is read
+  get_all_more : (n : ℕ) (s : List ℕ) (o : ℕ) → get_all f (n + 1) s o ≡ get_all f n s o ++ f.get s (o + n * f.width) ∷ []
+  get_all_more zero s o = let e : o + 0 * f.width ≡ o = omega arith in rw e refl
+  get_all_more (suc n) s o =
+      let e : o + suc n * f.width ≡ o + f.width + n * f.width = omega arith in
+      rw (add-one, e) (ap (λ (l : List A). f.get s o ∷ l) (sym (ap (λ (m : ℕ). get_all f m s (o + f.width)) (add-one n)) ∙ get_all_more n s (o + f.width)))
+
+  -- a turn of the loop that reads an array
+  pub load_turn : (n : ℕ) (s : List ℕ) (o at : ℕ) (l : List A) (x : A) → n < length l → at ≡ o + n * f.width → take n l ≡ get_all f n s o
+      → x ≡ f.get s at → take (n + 1) (set l n x) ≡ get_all f (n + 1) s o
+  load_turn n s o at l x h e k r = rw (take_more_set l n x h, get_all_more n s o, k, r, e)
+
+  pub load_end : (n i : ℕ) (s : List ℕ) (o : ℕ) (l : List A) → length l ≡ n → n ≤ i → i ≤ length l → take i l ≡ get_all f i s o → l ≡ get_all f n s o
+  load_end n i s o l e h k t =
+      let m : i ≡ length l = omega arith in
+      sym (take-length l) ∙ ap (λ (j : ℕ). take j l) (sym m) ∙ t ∙ ap (λ (j : ℕ). get_all f j s o) (m ∙ e)
+
+  -- a turn of the loop that tests an array: what is left to test gives the whole
+  pub tested_turn : (p : A → Bool) (n i : ℕ) (s : List ℕ) (at next : ℕ) (whole r : Bool) → i < n → r ≡ p (f.get s at) → r ≡ true → next ≡ at + f.width
+      → all_of p (get_all f (n - i) s at) ≡ whole → all_of p (get_all f (n - (i + 1)) s next) ≡ whole
+  tested_turn p n i s at next whole r h e y k w =
+      let m : n - i ≡ suc (n - (i + 1)) = omega arith in
+      rw k (rw (m, sym e ∙ y) at w)
+
   -- a turn of the loop that stores an array: what is left to store gives the whole
   pub store_step : (s : List ℕ) (k i : ℕ) (l : List A) → i < length l
       → store_all f (f.store s k (get_or l i f.none)) (k + f.width) (drop (i + 1) l) ≡ store_all f s k (drop i l)
@@ -216,18 +241,6 @@ format_back = via-back format_to format_from format_fields (both-back _ _ mark-b
 pub format_fits : (f : Format) → format_form.Fits f
 unfolding format_form
 format_fits f = (tt, (tt, (tt, tt)))
-
--- three formats, stored one by one
-pub three-stored : (s : List ℕ) (o : ℕ) (fs : List Format) → length fs ≡ 3
-    → store_all format_form s o fs
-    ≡ format_form.store
-    (format_form.store (format_form.store s o (get_or fs 0 linear_format)) (o + format_form.width) (get_or fs 1 linear_format))
-    (o + format_form.width + format_form.width) (get_or fs 2 linear_format)
-three-stored s o [] e = absurd (omega arith)
-three-stored s o (f ∷ []) e = absurd (omega arith)
-three-stored s o (f ∷ g ∷ []) e = absurd (omega arith)
-three-stored s o (f ∷ g ∷ h ∷ []) e = refl
-three-stored s o (f ∷ g ∷ h ∷ x ∷ l) e = absurd (omega arith)
 
 pub page-back : Back page_form
 unfolding page_form

@@ -1,47 +1,51 @@
-// What is chosen at power-on as bytes: for each of eight pages its formats and six fault limits.
-ghost use Rattle.std.specs.Prelude.{◌≡◌, ◌+◌, ◌≤◌, length};
-ghost use Rattle.laws.specs.Lists.{all_of};
+// What is chosen for a page at power-on, at a place of a buffer: its formats and six fault limits.
+ghost use Rattle.std.specs.Prelude.{◌≡◌, ◌*◌, ◌<◌, refl};
 ghost use Rattle.page.specs.Choice.{page_granted};
-ghost use Rattle.layout.specs.Layout.{choice_form, choice_wide, choices_size, choices_in};
+ghost use Rattle.layout.specs.Layout.{choice_form, choice_wide, format_form};
 
-use super::formats::{formats_at, load_formats};
-use super::lists::six_words;
+use super::stored::{Checked, Stored};
+use super::{CHOICE, CHOICES};
 use page::PageChoice;
+use value::format::Format;
 
-pub fn load_choice(s: &[u8], o: usize) -> PageChoice
-    requires { o + choice_wide ≤ length s.now }
-    ensures { result ≡ choice_form.get s.now o }
-{
-    let formats = load_formats(s, o);
-    let o1 = o + 18;
-    let limits = six_words(s, o1);
-    PageChoice {
-        formats: formats,
-        limits: limits,
-    }
-}
+#[tactic(auto, unfolding(crate::specs::Layout::choice_form, crate::specs::Layout::format_form))]
+impl Stored for PageChoice {
+    ghost form = { choice_form };
 
-// Whether the choice there is granted, from its formats alone.
-fn granted_at(s: &[u8], o: usize) -> bool
-    requires { o + choice_wide ≤ length s.now }
-    ensures { result ≡ page_granted (choice_form.get s.now o) }
-{
-    formats_at(s, o)
-}
-
-// Each choice is granted. The first that is not ends the test.
-pub fn all_granted(s: &[u8]) -> bool
-    requires { length s.now ≡ choices_size }
-    ensures { result ≡ all_of page_granted (choices_in s.now) }
-{
-    let mut i: usize = 0;
-    let mut k: usize = 0;
-    while i < 8 {
-        if !granted_at(s, k) {
-            return false;
+    fn load(s: &[u8], at: &mut usize) -> PageChoice {
+        PageChoice {
+            formats: <[Format; 3]>::load(s, at),
+            limits: <[u16; 6]>::load(s, at),
         }
-        k += super::CHOICE;
-        i += 1;
     }
-    true
+
+    fn store(self, s: &mut [u8], at: &mut usize) {
+        self.formats.store(s, at);
+        self.limits.store(s, at);
+    }
+}
+
+// A choice is granted by its formats alone.
+#[tactic(auto, unfolding(crate::specs::Layout::choice_form, page::specs::Choice::page_granted))]
+impl Checked for PageChoice {
+    ghost is_valid = { page_granted };
+
+    ghost WIDE = { choice_wide };
+
+    const WIDE: usize = CHOICE;
+
+    fn valid_at(s: &[u8], at: usize) -> bool {
+        <[Format; 3]>::valid_at(s, at)
+    }
+
+    ghost wide = { unfold choice_form in unfold format_form in refl };
+}
+
+// The choice for page i of eight.
+#[tactic(auto, unfolding(crate::specs::Layout::choice_form, crate::specs::Layout::format_form))]
+pub fn choice_at(s: &[u8; CHOICES], i: u8) -> PageChoice
+    requires { i < 8 }
+    ensures { result ≡ choice_form.get s.now (choice_wide * i) }
+{
+    PageChoice::load(s, &mut (CHOICE * usize::from(i)))
 }

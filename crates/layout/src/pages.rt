@@ -1,51 +1,53 @@
-// The eight pages of a state buffer, from byte 34 on, 72 bytes each: the test for 15, one read, one stored.
-ghost use Rattle.std.specs.Prelude.{◌≡◌, cond, ◌&&◌, ◌+◌, ◌*◌, ltb, length, get_or};
-ghost use Rattle.laws.specs.Lists.{all_of};
+// One of the eight pages of a state buffer.
+ghost use Rattle.std.specs.Prelude.{◌≡◌, cond, ◌&&◌, ◌+◌, ◌*◌, ◌<◌, ltb, get_or};
 ghost use Rattle.page.specs.Page.{power_on_page};
-ghost use Rattle.page.specs.Settings.{page_valid};
-ghost use Rattle.layout.specs.Layout.{page_form, pages_in, size, page_wide, pages_from};
+ghost use Rattle.layout.specs.Layout.{page_form, pages_in, page_wide, pages_from};
 
-use super::page_record::{load_page, save_page, valid_at};
+use super::stored::Stored;
+use super::{PAGE, PAGES, SIZE};
 use page::Page;
 
-// Each page is valid. The first that is not ends the test.
-pub fn all_valid(s: &[u8]) -> bool
-    requires { length s.now ≡ size }
-    ensures { result ≡ all_of page_valid (pages_in s.now) }
+// Where page i stands.
+fn place(i: u8) -> usize
+    ensures { result ≡ pages_from + page_wide * i }
 {
-    let mut i: usize = 0;
-    let mut k: usize = super::PAGES;
-    while i < 8 {
-        if !valid_at(s, k) {
-            return false;
-        }
-        k += super::PAGE;
-        i += 1;
-    }
-    true
+    PAGES + PAGE * usize::from(i)
+}
+
+// Page i of eight. Not inlined in each walk: that would make a tick a fifth quicker, and the streaming functions larger than the 16 KiB that
+// firmware/test allows at -Os.
+pub fn load_page(s: &[u8; SIZE], i: u8) -> Page
+    requires { i < 8 }
+    ensures { result ≡ get_or (pages_in s.now) i power_on_page }
+{
+    Page::load(s, &mut place(i))
 }
 
 // Page i; past the last a page as power-on leaves it.
-pub fn page_at(s: &[u8], i: u8) -> Page
-    requires { length s.now ≡ size }
+pub fn page_at(s: &[u8; SIZE], i: u8) -> Page
     ensures { result ≡ get_or (pages_in s.now) i power_on_page }
 {
     if i < 8 {
-        let o = super::PAGES + super::PAGE * (i as usize);
-        return load_page(s, o);
+        load_page(s, i)
+    } else {
+        page::power_on_page()
     }
-    page::power_on_page()
 }
 
-// Stores page i, where that is wanted and there is such a page.
-pub fn put_page(s: &mut [u8], i: u8, wanted: bool, p: Page)
-    requires { length s.old ≡ size }
+// Stores page i, where there is such a page.
+pub fn set_page(s: &mut [u8; SIZE], i: u8, p: Page)
+    ensures { s.new ≡ cond (ltb i 8) (page_form.store s.old (pages_from + page_wide * i) p) s.old }
+{
+    if i < 8 {
+        p.store(s, &mut place(i));
+    }
+}
+
+// The same, where that is wanted: a test that two callers, and their proofs, would make otherwise.
+pub fn put_page(s: &mut [u8; SIZE], i: u8, wanted: bool, p: Page)
     ensures { s.new ≡ cond (wanted && ltb i 8) (page_form.store s.old (pages_from + page_wide * i) p) s.old }
 {
     if wanted {
-        if i < 8 {
-            let o = super::PAGES + super::PAGE * (i as usize);
-            save_page(s, o, p);
-        }
+        set_page(s, i, p);
     }
 }

@@ -1,32 +1,61 @@
-// The test for 15 of a whole buffer.
-ghost use Rattle.std.specs.Prelude.{◌≡◌, length};
+// A whole state buffer: the test for 15, and its parts but the pages, each read and stored.
+ghost use Rattle.std.specs.Prelude.{◌≡◌};
 ghost use Rattle.stream.specs.Stream.{state_valid};
+ghost use Rattle.layout.specs.Form.{octet, store_all};
 ghost use Rattle.layout.specs.State.{decode, ready};
-ghost use Rattle.layout.specs.Layout.{size};
+ghost use Rattle.layout.specs.Layout.{part_form, unpaged_form, unpaged_at};
 
-use super::pages;
-use super::part::part_valid_at;
-use super::unpaged_part::unpaged_valid_at;
+use super::stored::{Checked, Stored, all_valid};
+use super::{PAGES, REPLY, SIZE, UNPAGED};
+use bus::Part;
+use page::Page;
+use unpaged::Unpaged;
 
-fn holds_valid(s: &[u8]) -> bool
-    requires { length s.now ≡ size }
+// It ends at the first part that is not valid: of a test without branches LLVM makes vector code, which takes longer.
+fn holds_valid(s: &[u8; SIZE]) -> bool
     ensures { result ≡ state_valid (decode s.now) }
 {
-    if !part_valid_at(s, 0) {
-        return false;
-    }
-    if !unpaged_valid_at(s, super::UNPAGED) {
-        return false;
-    }
-    pages::all_valid(s)
+    Part::valid_at(s, 0) && Unpaged::valid_at(s, UNPAGED) && all_valid::<Page, 8>(s, PAGES)
 }
 
 // The right length, and a state that gets no 15.
 pub fn ready(s: &[u8]) -> bool
     ensures { result ≡ ready s.now }
 {
-    if s.len() != super::SIZE {
-        return false;
+    match s.as_array::<SIZE>() {
+        Some(s) => holds_valid(s),
+        None => false,
     }
-    holds_valid(s)
+}
+
+// What is kept of a transaction.
+pub fn part_of(s: &[u8; SIZE]) -> Part
+    ensures { result ≡ part_form.get s.now 0 }
+{
+    Part::load(s, &mut 0)
+}
+
+pub fn set_part(s: &mut [u8; SIZE], p: Part)
+    ensures { s.new ≡ part_form.store s.old 0 p }
+{
+    p.store(s, &mut 0);
+}
+
+// The reply alone.
+pub fn set_reply(s: &mut [u8; SIZE], reply: [u8; 8])
+    ensures { s.new ≡ store_all octet s.old 14 reply }
+{
+    reply.store(s, &mut REPLY);
+}
+
+pub fn unpaged_of(s: &[u8; SIZE]) -> Unpaged
+    ensures { result ≡ unpaged_form.get s.now unpaged_at }
+{
+    Unpaged::load(s, &mut UNPAGED)
+}
+
+pub fn set_unpaged(s: &mut [u8; SIZE], u: Unpaged)
+    ensures { s.new ≡ unpaged_form.store s.old unpaged_at u }
+{
+    u.store(s, &mut UNPAGED);
 }

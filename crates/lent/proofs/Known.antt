@@ -2,82 +2,84 @@
 -- definition's, for those records.
 -- Assumes nothing.
 use Prim.Native.Nat.{ℕ}
-use mathlib.Core.Path.{◌≡◌, refl, ap, ◌∙◌}
-use mathlib.Core.Bool.{true, and-eq-true_iff, and-false}
+use mathlib.Core.Path.{◌≡◌, refl, sym, ap, ◌∙◌}
+use mathlib.Core.Bool.{true, ◌&&◌, and-eq-true_iff, and-true, and-false}
 use mathlib.Core.List.{List}
 use lib.Dec.{eqb, ltb}
 use lib.ListN.{length}
+use Rattle.std.specs.Prelude.{Option, Some, None, Result}
+use Rattle.answer.specs.declared.Refusal.{Refusal}
+use Rattle.answer.specs.Answer.{answer_of as number_given}
+use Rattle.laws.specs.Lists.{all_of}
 use Rattle.laws.proofs.Branches.{either}
 use Rattle.account.specs.Account.{sampled}
 use Rattle.page.specs.declared.Page.{Page}
 use Rattle.page.specs.Page.{power_on_page}
+use Rattle.page.specs.Settings.{page_valid}
 use Rattle.unpaged.specs.declared.Unpaged.{Unpaged}
-use Rattle.unpaged.specs.Unpaged.{shown}
+use Rattle.unpaged.specs.Unpaged.{shown, unpaged_valid}
 use Rattle.unpaged.specs.Events.{measure_answer, alert_answer}
-use Rattle.writes.specs.declared.answers.Judged.{Judged}
-use Rattle.writes.specs.Asked.{asked}
+use Rattle.writes.specs.declared.asked.Write.{Write}
 use Rattle.writes.specs.Answers.{write_answer}
 use Rattle.reads.specs.Request.{request_of}
 use Rattle.reads.specs.Answers.{read_answer}
-use Rattle.reads.specs.Reply.{stream, stream_of, reply_of}
+use Rattle.reads.specs.Reply.{reply_of}
 use Rattle.device.specs.Device.{device, device_valid, supported, page_shown}
 use Rattle.device.specs.Step.{Call, write, read, measure, sample, alert_response, tick, answer_of, answered, left, effect, sent, refused_device, step}
-use Rattle.device.proofs.States.{valid_parts, answered-valid, answer-zero}
-use Rattle.device.proofs.Calls.{stepped, replied, read_left, shown-of_any, sent-shown, read_bytes, alert_bytes}
-use Rattle.records.specs.declared.Seen.{Seen}
+use Rattle.device.proofs.States.{valid_parts}
+use Rattle.device.proofs.Calls.{stepped, replied, read_left, shown-of_any, sent-shown}
 use Rattle.records.specs.Records.{counted, surveyed, taken}
 use Rattle.lent.specs.declared.Outcome.{Outcome}
 use Rattle.lent.specs.declared.turns.Turn.{Turn}
 use Rattle.lent.specs.declared.turns.Sending.{Sending}
-use Rattle.lent.specs.Lent.{seen_valid, seen_answer, beside, outcome, refused_outcome, write_turn, measure_turn, sample_left, read_turn, alert_turn}
+use Rattle.lent.specs.Lent.{seen_valid, seen_answer, beside, outcome, refused_outcome, measure_turn, sample_left, read_turn, alert_turn}
+use Rattle.lent.proofs.Seen.{seen_accepted, seen_refused}
 use Rattle.lent.proofs.Taken.{few_taken, valid_few}
 use Rattle.lent.proofs.Outcomes.{alert_done}
 
 -- of a valid state the number is the number of records
-number_is : (u : Unpaged) (ps : List Page) → device_valid (device u ps) ≡ true → (surveyed ps).number ≡ length ps
+seen-number : (u : Unpaged) (ps : List Page) → device_valid (device u ps) ≡ true → surveyed ps ≡ Some (length ps)
 unfolding counted supported
-number_is u ps v =
-    let few = ((and-eq-true_iff (ltb 0 (length ps)) (ltb (length ps) 97)).0 (valid_parts (device u ps) v).number).1 in
-    rw few
+seen-number u ps v =
+    let parts = valid_parts (device u ps) v in
+    rw (((and-eq-true_iff (ltb 0 (length ps)) (ltb (length ps) 97)).0 parts.number).1, parts.pages)
 
 -- the test of a state, by what is known
 pub seen-valid : (u : Unpaged) (ps : List Page) → seen_valid (surveyed ps) u ≡ device_valid (device u ps)
 unfolding seen_valid counted supported device_valid
 seen-valid u ps =
-    either (ltb (length ps) 97) (λ few. simp few)
-    (λ many. rw (many, and-false (ltb 0 (length ps))))
+    let n = length ps in
+    either (ltb n 97)
+    (λ few. either (all_of page_valid ps)
+    (λ v. let number : surveyed ps ≡ Some n = rw (few, v) in rw number (rw v (sym (and-true (supported n && unpaged_valid n u)))))
+    (λ no. let none : surveyed ps ≡ None = rw (few, no) in rw none (rw no (sym (and-false (supported n && unpaged_valid n u))))))
+    (λ many. let none : surveyed ps ≡ None = rw many in rw none (rw (many, and-false (ltb 0 n))))
 
 -- an answer by a rule that is the definition's where the state is valid
-pub answer-is : (u : Unpaged) (ps : List Page) (s : Seen) (c : Call) (rule : ℕ) → s ≡ surveyed ps → (device_valid (device u ps) ≡ true → rule ≡ answer_of (device u ps) c)
-    → seen_answer s u rule ≡ answered (device u ps) c
-unfolding seen_answer answered
+pub answer-is : (u : Unpaged) (ps : List Page) (s : Option ℕ) (c : Call) (rule : ℕ → ℕ) → s ≡ surveyed ps
+    → (device_valid (device u ps) ≡ true → rule (length ps) ≡ answer_of (device u ps) c) → seen_answer s u rule ≡ answered (device u ps) c
+unfolding answered
 answer-is u ps s c rule e r =
-    either (device_valid (device u ps)) (λ v. rw (e, seen-valid u ps, v, r v)) (λ v. rw (e, seen-valid u ps, v))
+    either (device_valid (device u ps))
+    (λ v. let number = seen-number u ps v in
+    rw (e, v) (seen_accepted (surveyed ps) u rule (length ps) number (seen-valid u ps ∙ v) ∙ r v))
+    (λ v. rw v (seen_refused s u rule (ap (λ (x : Option ℕ). seen_valid x u) e ∙ seen-valid u ps ∙ v)))
 
 -- ---- call by call
 
-module _ (u : Unpaged) (s : Seen) where
-  module _ (bytes : List ℕ) (j : Judged) (ja : j.answer ≡ write_answer s.number u bytes) (ps : List Page) (e : s ≡ surveyed ps) where
-    rule-is : device_valid (device u ps) ≡ true → j.answer ≡ answer_of (device u ps) (write bytes)
-    unfolding answer_of
-    rule-is v = ja ∙ ap (λ (n : ℕ). write_answer n u bytes) (ap (λ (x : Seen). x.number) e ∙ number_is u ps v)
+module _ (u : Unpaged) (s : Option ℕ) where
+  pub write_known : (bytes : List ℕ) (j : Result Write Refusal) → number_given j ≡ seen_answer s u (λ n. write_answer n u bytes) → (ps : List Page) → s ≡ surveyed ps
+      → number_given j ≡ answered (device u ps) (write bytes)
+  unfolding answer_of
+  write_known bytes j ja ps e = ja ∙ answer-is u ps s (write bytes) _ e (λ v. refl)
 
-    pub write_known : (p : Page) (t : Turn) → t ≡ write_turn u p (seen_answer s u j.answer) j.write → t ≡ write_turn u p (answered (device u ps) (write bytes)) j.write
-    write_known p t et = et ∙ ap (λ (a : ℕ). write_turn u p a j.write) (answer-is u ps s (write bytes) j.answer e rule-is)
-
-    pub write_asked : (j.answer ≡ 0 → j.write ≡ asked bytes) → answered (device u ps) (write bytes) ≡ 0 → j.write ≡ asked bytes
-    write_asked jw z =
-        let d = device u ps in
-        jw (rule-is (answered-valid d (write bytes) z) ∙ answer-zero d (write bytes) z)
-
-  pub measure_known : (p : Page) (k quantity word : ℕ) (t : Turn) → t ≡ measure_turn u p (seen_answer s u (measure_answer s.number k quantity)) quantity word
+  pub measure_known : (p : Page) (k quantity word : ℕ) (t : Turn) → t ≡ measure_turn u p (seen_answer s u (λ n. measure_answer n k quantity)) quantity word
       → (ps : List Page) → s ≡ surveyed ps → t ≡ measure_turn u p (answered (device u ps) (measure k quantity word)) quantity word
   unfolding answer_of
   measure_known p k quantity word t et ps e =
-      et ∙ ap (λ (a : ℕ). measure_turn u p a quantity word) (answer-is u ps s (measure k quantity word) _ e
-      (λ v. ap (λ (n : ℕ). measure_answer n k quantity) (ap (λ (x : Seen). x.number) e ∙ number_is u ps v)))
+      et ∙ ap (λ (a : ℕ). measure_turn u p a quantity word) (answer-is u ps s (measure k quantity word) _ e (λ v. refl))
 
-  pub sample_known : (power : ℕ) (r : Outcome) → r ≡ sample_left u (seen_answer s u (sampled u.energy power).answer) power
+  pub sample_known : (power : ℕ) (r : Outcome) → r ≡ sample_left u (seen_answer s u (λ n. (sampled u.energy power).answer)) power
       → (ps : List Page) → s ≡ surveyed ps → beside r ps ≡ (step (device u ps) (sample power)).done
   unfolding sample_left refused_outcome answer_of left effect refused_device
   sample_known power r er ps e =
@@ -88,13 +90,13 @@ module _ (u : Unpaged) (s : Seen) where
       (λ y. rw (r_is, y) (stepped d (sample power) _ a refl (rw y)))
       (λ o. rw (r_is, o) (stepped d (sample power) _ a refl (rw o)))
 
-  pub tick_known : (r : Outcome) → r ≡ outcome u (seen_answer s u 0) → (ps : List Page) → s ≡ surveyed ps → r ≡ outcome u (answered (device u ps) tick)
+  pub tick_known : (r : Outcome) → r ≡ outcome u (seen_answer s u (λ n. 0)) → (ps : List Page) → s ≡ surveyed ps → r ≡ outcome u (answered (device u ps) tick)
   unfolding answer_of
-  tick_known r er ps e = er ∙ ap (outcome u) (answer-is u ps s tick 0 e (λ v. refl))
+  tick_known r er ps e = er ∙ ap (outcome u) (answer-is u ps s tick _ e (λ v. refl))
 
-  pub read_known : (p : Page) (header : List ℕ) (n : ℕ) (t : Sending) → t ≡ read_turn u p (seen_answer s u (read_answer u p header n)) (request_of header) header
+  pub read_known : (p : Page) (header : List ℕ) (n : ℕ) (t : Sending) → t ≡ read_turn u p (seen_answer s u (λ k. read_answer u p header n)) (request_of header) header
       → (ps : List Page) → s ≡ surveyed ps → p ≡ taken ps (shown u)
-      → (beside t.outcome ps ≡ (step (device u ps) (read header n)).done) × (reply_of (stream_of t.stream) n ≡ (step (device u ps) (read header n)).reply)
+      → (beside t.outcome ps ≡ (step (device u ps) (read header n)).done) × (reply_of t.stream n ≡ (step (device u ps) (read header n)).reply)
   unfolding read_turn refused_outcome answer_of refused_device
   read_known p header n t et ps e held =
       let d = device u ps in
@@ -103,18 +105,18 @@ module _ (u : Unpaged) (s : Seen) where
       let t_is : t ≡ read_turn u p a (request_of header) header =
       et ∙ ap (λ (x : ℕ). read_turn u p x (request_of header) header)
       (answer-is u ps s (read header n) _ e (λ v. ap (λ (q : Page). read_answer u q header n) (is v))) in
-      let sent_is = ap (λ (x : Sending). x.stream) t_is ∙ ap stream (sent-shown d header n a (request_of header) p refl is refl) in (
+      let sent_is = ap (λ (x : Sending). x.stream) t_is ∙ sent-shown d header n a (request_of header) p refl is refl in (
         rw t_is (stepped d (read header n) _ a refl (read_left d header n a)),
-        replied d (read header n) _ _ a refl sent_is refl (read_bytes d header n a),
+        replied d (read header n) t.stream _ a refl sent_is refl,
       )
 
-  pub alert_known : (n : ℕ) (t : Sending) → t ≡ alert_turn u (seen_answer s u (alert_answer u.alert n)) → (ps : List Page) → s ≡ surveyed ps
-      → (beside t.outcome ps ≡ (step (device u ps) (alert_response n)).done) × (reply_of (stream_of t.stream) n ≡ (step (device u ps) (alert_response n)).reply)
+  pub alert_known : (n : ℕ) (t : Sending) → t ≡ alert_turn u (seen_answer s u (λ k. alert_answer u.alert n)) → (ps : List Page) → s ≡ surveyed ps
+      → (beside t.outcome ps ≡ (step (device u ps) (alert_response n)).done) × (reply_of t.stream n ≡ (step (device u ps) (alert_response n)).reply)
   unfolding alert_turn answer_of sent
   alert_known n t et ps e =
       let d = device u ps in
       let a = answered d (alert_response n) in
       let t_is : t ≡ alert_turn u a = et ∙ ap (alert_turn u) (answer-is u ps s (alert_response n) _ e (λ v. refl)) in (
         rw t_is (alert_done u ps n a refl),
-        replied d (alert_response n) _ _ a refl (ap (λ (x : Sending). x.stream) t_is) refl (alert_bytes d n a),
+        replied d (alert_response n) t.stream _ a refl (ap (λ (x : Sending). x.stream) t_is) refl,
       )

@@ -3,3 +3,4 @@ pub mod Taken
 pub mod Outcomes
 pub mod Sweep
 pub mod Powered
+pub mod Seen

@@ -6,9 +6,13 @@ use mathlib.Core.Bool.{Bool, true, false, cond, ◌&&◌, ◌||◌, or-false, an
 use mathlib.Core.List.{List, map}
 use native.Mathlib.Omega.{arith}
 use lib.Dec.{eqb, ltb}
-use lib.ListN.{length, get_or, set, replicate}
+use lib.ListN.{length, get_or, set}
 use lib.Seq.{set_out}
 use borrow.Author.Tests.{eqb-true, ltb-true, eq-eqb, ne_eqb}
+use Rattle.std.specs.Prelude.{Some, None, Result, Ok, Err, IfOk}
+use Rattle.std.proofs.lemmas.List.{get_or_default}
+use Rattle.answer.specs.declared.Refusal.{Refusal}
+use Rattle.answer.specs.Answer.{number_of, answer_of as number_given}
 use Rattle.laws.specs.Lists.{any_of, any_pair}
 use Rattle.laws.proofs.Branches.{either}
 use Rattle.page.specs.declared.Page.{Page}
@@ -23,16 +27,16 @@ use Rattle.writes.specs.Left.{page_left, unpaged_left, clearing}
 use Rattle.device.specs.declared.Device.{Device}
 use Rattle.device.specs.Device.{device, device_valid, supported}
 use Rattle.device.specs.Step.{write, measure, alert_response, tick, answer_of, answered, effect, written, measured, ticked_device, refused_device, left, done, step}
-use Rattle.device.proofs.PowerOn.{usual-number, usual-granted, usual-device, usual-unpaged}
 use Rattle.device.proofs.OnePage.{one_written, one_measured}
 use Rattle.device.proofs.EveryPage.{every-written}
 use Rattle.device.proofs.States.{valid_parts, answered-valid}
 use Rattle.device.proofs.Refused.{device-stays}
-use Rattle.device.proofs.Calls.{stepped, valid_page_lem, one_small, measured-small}
+use Rattle.device.proofs.Calls.{stepped, done_call, refused_call, valid_page_lem, one_small, measured-small}
 use Rattle.lent.specs.declared.turns.Turn.{Turn}
-use Rattle.lent.specs.Lent.{beside, outcome, powered_by, powered, powered_outcome, refused_outcome, accepted_page, accepted_turn, write_turn, measured_turn, measured_page, measure_turn, finished, alert_left, turn}
+use Rattle.lent.specs.Every.{swept, rising}
+use Rattle.lent.specs.Lent.{beside, outcome, refused_outcome, accepted_page, accepted_turn, write_turn, measured_turn, measured_page, measure_turn, finished, alert_left, turn}
 use Rattle.records.specs.Records.{taken, put_back}
-use Rattle.lent.proofs.Taken.{same_at, put_back_lem, few_taken, few_put, many_put, many_answered}
+use Rattle.lent.proofs.Taken.{put_back_lem, few_taken, few_put, many_put, many_answered}
 
 -- an answered alert response takes the alert down
 pub alert_done : (u : Unpaged) (ps : List Page) (n a : ℕ) → a ≡ answered (device u ps) (alert_response n) → beside (alert_left u a) ps ≡ (step (device u ps) (alert_response n)).done
@@ -54,13 +58,6 @@ past u ps v every =
     let last = eqb-true u.page 0xFF every in
     omega (arith, few, last)
 
--- what the walk over every record leaves of the records ys, and whether a bit rose on any
-abbrev pub swept : Bool → Write → List Page → List Page
-swept every w ys = cond every (map (page_left w) ys) ys
-
-abbrev pub rising : Bool → Write → List Page → Bool
-rising every w ys = every && any_pair risen ys (map (page_left w) ys)
-
 module _ (u : Unpaged) (ps : List Page) where
   -- an accepted write to the selected page p,
   one_accepted : (w : Write) (p : Page) → u.page < length ps → every_page u ≡ false → p ≡ get_or ps u.page no_page
@@ -80,13 +77,13 @@ module _ (u : Unpaged) (ps : List Page) where
 
   -- in one form
   accepted-write : (w : Write) (p : Page) → device_valid (device u ps) ≡ true → p ≡ get_or ps u.page power_on_page
-      → let ys = set ps u.page (accepted_page u p w) in let zs = swept (every_page u) w ys in
-      beside (finished (accepted_turn u p w).outcome (clearing w) (rising (every_page u) w ys) (clearing w && any_of any_status zs)) zs ≡ done (written (device u ps) w) 0
+      → let ys = set ps u.page (accepted_page u p w) in let every = cond (every_page u) (Some w) None in let zs = swept every ys in
+      beside (finished (accepted_turn u p w).outcome (clearing w) (rising every ys) (clearing w && any_of any_status zs)) zs ≡ done (written (device u ps) w) 0
   accepted-write w p v held =
       either (every_page u)
       (λ every. rw (set_out ps u.page (accepted_page u p w) (past u ps v every), every) (every_accepted w p every))
       (λ one. let h = one_small (device u ps) (valid_page_lem (device u ps) v) one in
-      rw one (one_accepted w p h one (held ∙ same_at power_on_page no_page ps u.page h)))
+      rw one (one_accepted w p h one (held ∙ get_or_default ps u.page power_on_page no_page h)))
 
   -- and an accepted measurement on the page p
   accepted-measure : (k quantity word : ℕ) (p : Page) → k < length ps → p ≡ get_or ps k no_page
@@ -94,49 +91,47 @@ module _ (u : Unpaged) (ps : List Page) where
   unfolding measured_turn
   accepted-measure k quantity word p h e = rw e (ap (λ (d : Device). done d 0) (one_measured (device u ps) k quantity word h))
 
-  -- a refused write; any other walk over the records is one over none
-  refused-write : (bytes : List ℕ) → eqb (answered (device u ps) (write bytes)) 0 ≡ false
-      → beside (finished (refused_outcome u (answered (device u ps) (write bytes))) false false false) ps ≡ (step (device u ps) (write bytes)).done
-  unfolding finished refused_outcome left refused_device
-  refused-write bytes n =
-      let a = answered (device u ps) (write bytes) in
-      rw (or-false (refused u a).alert) (stepped (device u ps) (write bytes) _ a refl (rw n))
+  -- a refused write
+  refused-write : (bytes : List ℕ) (r : Refusal) → number_of r ≡ answered (device u ps) (write bytes)
+      → beside (finished (refused_outcome u (number_of r)) false false false) ps ≡ (step (device u ps) (write bytes)).done
+  unfolding finished refused_outcome refused_device
+  refused-write bytes r e = rw (or-false (refused u (number_of r)).alert) (refused_call (device u ps) (write bytes) r e)
 
   -- ys are the records with the page put back, zs those after the walk over every one
-  turned-done : (bytes : List ℕ) (p : Page) (w : Write) (t : Turn) → p ≡ get_or ps u.page power_on_page → (answered (device u ps) (write bytes) ≡ 0 → w ≡ asked bytes)
-      → t ≡ write_turn u p (answered (device u ps) (write bytes)) w
-      → let ys = set ps u.page t.page in let zs = swept t.every w ys in
-      beside (finished t.outcome t.clears (rising t.every w ys) (t.clears && any_of any_status zs)) zs ≡ (step (device u ps) (write bytes)).done
-  unfolding write_turn accepted_turn left effect
-  turned-done bytes p w t held ew e =
+  turned-done : (bytes : List ℕ) (p : Page) (j : Result Write Refusal) → p ≡ get_or ps u.page power_on_page → number_given j ≡ answered (device u ps) (write bytes)
+      → IfOk j (λ w. w ≡ asked bytes)
+      → let t = write_turn u p j in let ys = set ps u.page t.page in let zs = swept t.every ys in
+      beside (finished t.outcome t.clears (rising t.every ys) (t.clears && any_of any_status zs)) zs ≡ (step (device u ps) (write bytes)).done
+  unfolding write_turn accepted_turn effect
+  turned-done bytes p (Ok w) held e ew =
       let d = device u ps in
-      let a = answered d (write bytes) in
-      either (eqb a 0)
-      (λ y. let z = eqb-true a 0 y in
-      let t_is : t ≡ accepted_turn u p w = e ∙ rw y in
-      rw t_is (accepted-write w p (answered-valid d (write bytes) z) held ∙ stepped d (write bytes) _ 0 (sym z) (ap (written d) (ew z))))
-      (λ n. let t_is : t ≡ turn (refused_outcome u a) p false false = e ∙ rw n in
-      rw (t_is, held, put_back_lem power_on_page ps u.page) (refused-write bytes n))
+      accepted-write w p (answered-valid d (write bytes) (sym e)) held ∙ done_call d (write bytes) _ e (ap (written d) ew)
+  turned-done bytes p (Err r) held e ew = rw (held, put_back_lem power_on_page ps u.page) (refused-write bytes r e)
 
-  pub write_done : (bytes : List ℕ) (p : Page) (w : Write) (t : Turn) (ys zs : List Page) (rose standing : Bool) → p ≡ get_or ps u.page power_on_page → (answered (device u ps) (write bytes) ≡ 0 → w ≡ asked bytes)
-      → t ≡ write_turn u p (answered (device u ps) (write bytes)) w → ys ≡ set ps u.page t.page → rose ≡ rising t.every w ys → zs ≡ swept t.every w ys
+  pub write_done : (bytes : List ℕ) (p : Page) (j : Result Write Refusal) (t : Turn) (ys zs : List Page) (rose standing : Bool) → p ≡ get_or ps u.page power_on_page
+      → number_given j ≡ answered (device u ps) (write bytes) → IfOk j (λ w. w ≡ asked bytes)
+      → t ≡ write_turn u p j → ys ≡ set ps u.page t.page → rose ≡ rising t.every ys → zs ≡ swept t.every ys
       → standing ≡ (t.clears && any_of any_status zs) → beside (finished t.outcome t.clears rose standing) zs ≡ (step (device u ps) (write bytes)).done
-  write_done bytes p w t ys zs rose standing held ew e ey er ez es =
-      rw (es, ez, er, ey) (turned-done bytes p w t held ew e)
+  write_done bytes p j t ys zs rose standing held ej ew e ey er ez es =
+      rw (es, ez, er, ey, e) (turned-done bytes p j held ej ew)
 
-  -- the same with a record that is taken out of at most 96
-  pub write_lent : (bytes : List ℕ) (p : Page) (w : Write) (t : Turn) (ys zs : List Page) (rose standing : Bool) → p ≡ taken ps u.page
-      → (answered (device u ps) (write bytes) ≡ 0 → w ≡ asked bytes)
-      → t ≡ write_turn u p (answered (device u ps) (write bytes)) w → ys ≡ put_back ps u.page t.page → rose ≡ rising t.every w ys → zs ≡ swept t.every w ys
-      → standing ≡ (t.clears && any_of any_status zs) → beside (finished t.outcome t.clears rose standing) zs ≡ (step (device u ps) (write bytes)).done
+  -- the same with more than 96 records, of which none is taken out
+  many_done : (many : ltb (length ps) 97 ≡ false) (bytes : List ℕ) (p : Page) (j : Result Write Refusal) → number_given j ≡ answered (device u ps) (write bytes)
+      → let t = write_turn u p j in let ys = put_back ps u.page t.page in let zs = swept t.every ys in
+      beside (finished t.outcome t.clears (rising t.every ys) (t.clears && any_of any_status zs)) zs ≡ (step (device u ps) (write bytes)).done
   unfolding write_turn
-  write_lent bytes p w t ys zs rose standing held ew e ey er ez es =
+  many_done many bytes p (Ok w) e = let z : ◌≡◌ {A = ℕ} 0 15 = e ∙ many_answered ps many u (write bytes) in absurd (omega (arith, z))
+  many_done many bytes p (Err r) e = rw (many_put ps many u.page p) (refused-write bytes r e)
+
+  -- and with a record that is taken out of at most 96
+  pub write_lent : (bytes : List ℕ) (p : Page) (j : Result Write Refusal) (t : Turn) (ys zs : List Page) (rose standing : Bool) → p ≡ taken ps u.page
+      → number_given j ≡ answered (device u ps) (write bytes) → IfOk j (λ w. w ≡ asked bytes)
+      → t ≡ write_turn u p j → ys ≡ put_back ps u.page t.page → rose ≡ rising t.every ys → zs ≡ swept t.every ys
+      → standing ≡ (t.clears && any_of any_status zs) → beside (finished t.outcome t.clears rose standing) zs ≡ (step (device u ps) (write bytes)).done
+  write_lent bytes p j t ys zs rose standing held ej ew e ey er ez es =
       either (ltb (length ps) 97)
-      (λ few. write_done bytes p w t ys zs rose standing (held ∙ few_taken ps u.page few) ew e (ey ∙ few_put ps u.page few t.page) er ez es)
-      (λ many. let fifteen = many_answered ps many u (write bytes) in
-      let refuses : eqb (answered (device u ps) (write bytes)) 0 ≡ false = rw fifteen in
-      let t_is : t ≡ turn (refused_outcome u (answered (device u ps) (write bytes))) p false false = e ∙ rw refuses in
-      rw (es, ez, er, ey, t_is, many_put ps many u.page p) (refused-write bytes refuses))
+      (λ few. write_done bytes p j t ys zs rose standing (held ∙ few_taken ps u.page few) ej ew e (ey ∙ few_put ps u.page few t.page) er ez es)
+      (λ many. rw (es, ez, er, ey, e) (many_done many bytes p j ej))
 
   pub measure_done : (k quantity word : ℕ) (p : Page) (t : Turn) → p ≡ get_or ps k power_on_page → t ≡ measure_turn u p (answered (device u ps) (measure k quantity word)) quantity word
       → beside t.outcome (set ps k t.page) ≡ (step (device u ps) (measure k quantity word)).done
@@ -148,8 +143,8 @@ module _ (u : Unpaged) (ps : List Page) where
       (λ y. let z = eqb-true a 0 y in
       let h = measured-small d k quantity word z in
       let t_is : t ≡ measured_turn u p quantity word = e ∙ rw y in
-      rw t_is (accepted-measure k quantity word p h (held ∙ same_at power_on_page no_page ps k h) ∙ stepped d (measure k quantity word) _ 0 (sym z) refl))
-      (λ n. let t_is : t ≡ turn (refused_outcome u a) p false false = e ∙ rw n in
+      rw t_is (accepted-measure k quantity word p h (held ∙ get_or_default ps k power_on_page no_page h) ∙ stepped d (measure k quantity word) _ 0 (sym z) refl))
+      (λ n. let t_is : t ≡ turn (refused_outcome u a) p None false = e ∙ rw n in
       rw (t_is, held, put_back_lem power_on_page ps k) (stepped d (measure k quantity word) _ a refl (rw n)))
 
   pub measure_lent : (k quantity word : ℕ) (p : Page) (t : Turn) → p ≡ taken ps k → t ≡ measure_turn u p (answered (device u ps) (measure k quantity word)) quantity word
@@ -160,20 +155,8 @@ module _ (u : Unpaged) (ps : List Page) where
       (λ few. rw (few_put ps k few t.page) (measure_done k quantity word p t (held ∙ few_taken ps k few) e))
       (λ many. let a = answered (device u ps) (measure k quantity word) in
       let refuses : eqb a 0 ≡ false = rw (many_answered ps many u (measure k quantity word)) in
-      let t_is : t ≡ turn (refused_outcome u a) p false false = e ∙ rw refuses in
+      let t_is : t ≡ turn (refused_outcome u a) p None false = e ∙ rw refuses in
       rw (t_is, many_put ps many k p) (stepped (device u ps) (measure k quantity word) _ a refl (rw refuses)))
-
--- power-on sets the records where its answer is 0
-pub powered-done : (ps : List Page) → (powered_outcome (length ps)).answer ≡ 0 → beside (powered_outcome (length ps)) (replicate (length ps) power_on_page) ≡ powered ps
-unfolding powered_by powered_outcome
-powered-done ps z =
-    either (supported (length ps))
-    (λ y. rw (y, usual-number (length ps), eq-eqb (length ps) (length ps) refl, usual-granted (length ps), y, usual-device (length ps)))
-    (λ n. let f : 15 ≡ 0 = rw n at z in absurd (omega arith))
-
-pub powered-kept : (ps : List Page) → ((powered_outcome (length ps)).answer ≡ 0 → ⊥) → beside (powered_outcome (length ps)) ps ≡ powered ps
-unfolding powered_by powered_outcome
-powered-kept ps other = either (supported (length ps)) (λ y. absurd (other (rw y))) (λ n. rw (n, usual-unpaged (length ps)))
 
 refused-tick : (d : Device) → cml_bits (answered d tick) ≡ 0
 unfolding answered answer_of cml_bits

@@ -5,9 +5,9 @@ use mathlib.Core.Path.{◌≡◌, refl, sym, ap, subst, ◌∙◌}
 use mathlib.Core.Bool.{Bool, true, false, ◌&&◌, and-eq-true_iff}
 use mathlib.Core.List.{List}
 use native.Mathlib.Omega.{arith}
-use lib.Dec.{eqb, ltb}
+use lib.Dec.{eqb}
 use lib.ListN.{length, replicate, length-replicate}
-use borrow.Author.Tests.{eqb-true}
+use borrow.Author.Tests.{eqb-true, eq-eqb}
 use Rattle.laws.specs.Lists.{all_of}
 use Rattle.laws.proofs.Branches.{either}
 use Rattle.page.specs.declared.Page.{Page}
@@ -15,13 +15,13 @@ use Rattle.page.specs.declared.PageChoice.{PageChoice}
 use Rattle.page.specs.Page.{power_on_page}
 use Rattle.page.specs.Choice.{page_granted}
 use Rattle.unpaged.specs.Unpaged.{power_on_unpaged}
+use Rattle.device.specs.declared.Device.{Device}
 use Rattle.device.specs.Device.{device, choice, supported, granted, chosen_unpaged, power_on}
 use Rattle.device.specs.Step.{done}
 use Rattle.device.proofs.PowerOn as power
-use Rattle.records.specs.Records.{counted, surveyed_choices, chosen_pages}
+use Rattle.records.specs.Records.{chosen_pages}
 use Rattle.records.proofs.Choices.{all_chosen}
-use Rattle.lent.specs.declared.Outcome.{Outcome}
-use Rattle.lent.specs.Lent.{beside, outcome, powered_by, powered_by_outcome}
+use Rattle.lent.specs.Lent.{powered_by, powered}
 use Rattle.lent.specs.PowerOn.{power_on_answer, PoweredAs, PowerOnByLeaves}
 
 module _ (ps : List Page) (cs : List PageChoice) where
@@ -40,22 +40,13 @@ module _ (ps : List Page) (cs : List PageChoice) where
         (λ e. let same : length cs ≡ length ps = eqb-true (length cs) (length ps) e in rw (e, same, s))
         (λ e. rw e)
 
-    -- at most 96, so that each was looked at
-    looked_at : (eqb (length cs) (length ps) && (surveyed_choices cs).valid) ≡ taken
-    unfolding counted supported
-    looked_at =
-        let few = ((and-eq-true_iff (ltb 0 (length ps)) (ltb (length ps) 97)).0 s).1 in
-        either (eqb (length cs) (length ps))
-        (λ e. let same : length cs ≡ length ps = eqb-true (length cs) (length ps) e in rw (e, same, few))
-        (λ e. rw e)
-
   -- ---- the three cases of the definition
 
-  is_kept : supported (length ps) ≡ false → powered_by (choice cs) ps ≡ done (device power_on_unpaged ps) 15
+  pub is_kept : supported (length ps) ≡ false → powered_by (choice cs) ps ≡ done (device power_on_unpaged ps) 15
   unfolding powered_by chosen_unpaged
   is_kept s = rw s
 
-  is_usual : supported (length ps) ≡ true → taken ≡ false → powered_by (choice cs) ps ≡ done (device power_on_unpaged (replicate (length ps) power_on_page)) 27
+  pub is_usual : supported (length ps) ≡ true → taken ≡ false → powered_by (choice cs) ps ≡ done (device power_on_unpaged (replicate (length ps) power_on_page)) 27
   unfolding powered_by
   is_usual s t = rw (s, each-granted s, t, power.usual-device (length ps))
 
@@ -63,49 +54,12 @@ module _ (ps : List Page) (cs : List PageChoice) where
   unfolding powered_by
   is_chosen s t = rw (s, each-granted s, t)
 
-  -- ---- the outcome, by value, beside the records that each answer leaves
-
-  abbrev pub by : Outcome
-  by = powered_by_outcome (length ps) (length cs) (surveyed_choices cs).valid
-
-  by_fifteen : supported (length ps) ≡ false → by ≡ outcome power_on_unpaged 15
-  unfolding powered_by_outcome
-  by_fifteen s = rw s
-
-  by_refused : supported (length ps) ≡ true → taken ≡ false → by ≡ outcome power_on_unpaged 27
-  unfolding powered_by_outcome
-  by_refused s t = rw (s, looked_at s, t)
-
-  by_done : supported (length ps) ≡ true → taken ≡ true → by ≡ outcome power_on_unpaged 0
-  unfolding powered_by_outcome
-  by_done s t = rw (s, looked_at s, t)
-
-  other : {a b : ℕ} → by ≡ outcome power_on_unpaged a → by.answer ≡ b → a ≡ b
-  other e z = sym (ap (λ (o : Outcome). o.answer) e) ∙ z
-
-  pub by_kept : by.answer ≡ 15 → beside by ps ≡ powered_by (choice cs) ps
-  by_kept e =
-      either (supported (length ps))
-      (λ s. either taken (λ t. absurd (omega (arith, other (by_done s t) e))) (λ t. absurd (omega (arith, other (by_refused s t) e))))
-      (λ s. rw (by_fifteen s) (sym (is_kept s)))
-
-  pub by_usual : (by.answer ≡ 15 → ⊥) → (by.answer ≡ 0 → ⊥) → beside by (replicate (length ps) power_on_page) ≡ powered_by (choice cs) ps
-  by_usual h k =
-      either (supported (length ps))
-      (λ s. either taken (λ t. absurd (k (ap (λ (o : Outcome). o.answer) (by_done s t)))) (λ t. rw (by_refused s t) (sym (is_usual s t))))
-      (λ s. absurd (h (ap (λ (o : Outcome). o.answer) (by_fifteen s))))
-
   each-by : taken ≡ true → device power_on_unpaged (chosen_pages (length ps) cs) ≡ power_on (choice cs)
   unfolding power_on chosen_unpaged
   each-by t = ap (device power_on_unpaged) (ap (λ (m : ℕ). chosen_pages m cs) (sym (as_many t)) ∙ all_chosen cs)
 
-  pub by_chosen : by.answer ≡ 0 → beside by (chosen_pages (length ps) cs) ≡ powered_by (choice cs) ps
-  by_chosen e =
-      either (supported (length ps))
-      (λ s. either taken
-      (λ t. rw (by_done s t) (ap (λ d. done d 0) (each-by t) ∙ sym (is_chosen s t)))
-      (λ t. absurd (omega (arith, other (by_refused s t) e))))
-      (λ s. absurd (omega (arith, other (by_fifteen s) e)))
+  pub is_each : supported (length ps) ≡ true → taken ≡ true → powered_by (choice cs) ps ≡ done (device power_on_unpaged (chosen_pages (length ps) cs)) 0
+  is_each s t = is_chosen s t ∙ sym (ap (λ (d : Device). done d 0) (each-by t))
 
   -- ---- what each answer leaves
 
@@ -154,3 +108,15 @@ power_on-by_leaves ps cs =
     (λ t. subst (PoweredAs ps cs) (sym (is_chosen ps cs s t)) (as_chosen ps cs s t))
     (λ t. subst (PoweredAs ps cs) (sym (is_usual ps cs s t)) (as_usual ps cs s t)))
     (λ s. subst (PoweredAs ps cs) (sym (is_kept ps cs s)) (as_kept ps cs s))
+
+-- ---- and power-on without choices
+
+module _ (ps : List Page) where
+  pub usual_kept : supported (length ps) ≡ false → powered ps ≡ done (device power_on_unpaged ps) 15
+  unfolding powered_by
+  usual_kept s = rw (s, power.usual-unpaged (length ps))
+
+  pub usual_done : supported (length ps) ≡ true → powered ps ≡ done (device power_on_unpaged (replicate (length ps) power_on_page)) 0
+  unfolding powered_by
+  usual_done s =
+      rw (s, power.usual-number (length ps), eq-eqb (length ps) (length ps) refl, power.usual-granted (length ps), s, power.usual-device (length ps))

@@ -1,49 +1,27 @@
 -- A loop that changes each element of a list by f and gathers whether a pair of old and new passes the test p: the facts of one turn, and of
--- the end.
+-- the end. d stands past the end where an element is read.
 -- Assumes nothing.
-use Prim.Native.Nat.{ℕ, suc, ◌+◌, ◌<◌, ◌≤◌}
-use mathlib.Core.Path.{◌≡◌, sym, ap, ◌∙◌}
-use mathlib.Core.Bool.{Bool, ◌||◌, or-false}
-use mathlib.Core.List.{List, [], ◌∷◌, map, map-append}
-use native.Mathlib.Nat.{lt-suc_self}
-use native.Mathlib.Numerals.{add-one}
-use native.Mathlib.Omega.{arith}
-use lib.ListN.{length, get_or, set, take, drop, drop_of_length-le}
-use lib.Seq.{drop-cons, drop-set-lt, take_all, take-suc, take-suc-set}
+use Rattle.std.proofs.Common.{◌≡◌, ℕ, ◌+◌, ◌-◌, ◌<◌, ◌≤◌, Bool, ◌||◌, List, ◌++◌, length, get_or, take, drop, map, sym, ap, ◌∙◌, add-one, arith}
+use Rattle.std.proofs.Math.Bool.{or-false, or_assoc}
+use Rattle.std.proofs.Math.ListN.{drop_of_length-le, length-map, length-take}
+use Rattle.std.proofs.Math.Seq.{drop-cons}
+use Rattle.std.proofs.lemmas.List.{get_or-append_right, get_or-drop}
 use Rattle.laws.specs.Lists.{any_pair}
-use Rattle.records.proofs.Found.{or_assoc}
 
-module _ {A : Type 0} (d : A) (f : A → A) (p : A → A → Bool) (l : List A) where
-  -- where a turn begins: the elements before i are changed, those from i on are as they were, and c is known of those before i
-  pub record Swept (i : ℕ) (c : Bool) (zs : List A) : Type 0 where
-    pub changed : take i zs ≡ map f (take i l)
-    pub kept : drop i zs ≡ drop i l
-    pub found : (c || any_pair p (drop i l) (map f (drop i l))) ≡ any_pair p l (map f l)
+module _ {A : Type 0} (d : A) (f : A → A) (p : A → A → Bool) (l : List A) (i : ℕ) where
+  -- the element at hand is as it was
+  pub swept_here : (zs : List A) → i < length l → zs ≡ map f (take i l) ++ drop i l → get_or zs i d ≡ get_or l i d
+  swept_here zs h inv =
+      let long : length (map f (take i l)) ≡ i = length-map (take i l) f ∙ length-take i l ∙ omega arith in
+      let here : i + (i - i) ≡ i = omega arith in
+      ap (λ (t : List A). get_or t i d) inv
+      ∙ get_or-append_right (map f (take i l)) (drop i l) i i d long (omega arith)
+      ∙ get_or-drop i l (i - i) d
+      ∙ ap (λ (k : ℕ). get_or l k d) here
 
-  module _ (i : ℕ) (c : Bool) (zs : List A) (s : Swept i c zs) where
-    module _ (h : i < length zs) (k : i < length l) where
-      both : (get_or zs i d ∷ drop (suc i) zs) ≡ (get_or l i d ∷ drop (suc i) l)
-      both = sym (drop-cons zs i d h) ∙ s.kept ∙ drop-cons l i d k
+  pub found_more : (c r : Bool) → i < length l → r ≡ p (get_or l i d) (f (get_or l i d)) → (c || any_pair p (drop i l) (map f (drop i l))) ≡ any_pair p l (map f l)
+      → ((c || r) || any_pair p (drop (i + 1) l) (map f (drop (i + 1) l))) ≡ any_pair p l (map f l)
+  found_more c r h e inv = rw (e, add-one, or_assoc) (rw (drop-cons l i d h) at inv)
 
-      pub same : get_or zs i d ≡ get_or l i d
-      same = let e = both in cc
-
-      rest : drop (suc i) zs ≡ drop (suc i) l
-      rest = let e = both in cc
-
-      turn : (x : A) (r : Bool) → x ≡ f (get_or l i d) → r ≡ (c || p (get_or l i d) (f (get_or l i d))) → Swept (suc i) r (set zs i x)
-      turn x r ex er = record {
-        changed = take-suc-set zs i x h ∙ rw (s.changed, ex) (sym (map-append f (take i l) (get_or l i d ∷ [])) ∙ ap (map f) (sym (take-suc l i d k)));
-        kept = drop-set-lt (suc i) zs i x (lt-suc_self i) ∙ rest;
-        found = rw (er, or_assoc c (p (get_or l i d) (f (get_or l i d))) (any_pair p (drop (suc i) l) (map f (drop (suc i) l)))) (rw (drop-cons l i d k) at s.found);
-      }
-
-      pub swept-turn : (x : A) (r : Bool) → x ≡ f (get_or l i d) → r ≡ (c || p (get_or l i d) (f (get_or l i d))) → Swept (i + 1) r (set zs i x)
-      swept-turn x r ex er = rw add-one (turn x r ex er)
-
-    module _ (same_length : length zs ≡ length l) (over : length l ≤ i) where
-      pub swept-list : zs ≡ map f l
-      swept-list = sym (take_all i zs (omega (arith, same_length))) ∙ s.changed ∙ ap (map f) (take_all i l over)
-
-      pub swept-found : c ≡ any_pair p l (map f l)
-      swept-found = sym (or-false c) ∙ (rw (drop_of_length-le l over) at s.found)
+  pub found_all : (c : Bool) → length l ≤ i → (c || any_pair p (drop i l) (map f (drop i l))) ≡ any_pair p l (map f l) → c ≡ any_pair p l (map f l)
+  found_all c h inv = sym (or-false c) ∙ (rw (drop_of_length-le l h) at inv)

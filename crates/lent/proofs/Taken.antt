@@ -1,14 +1,14 @@
 -- A record that was taken out: it is the page of the state where the call has that page, and put back as it was it changes nothing. No call
 -- with more than 96 records is accepted.
 -- Assumes nothing.
-use Prim.Native.Nat.{ℕ, zero, suc, ◌<◌}
+use Prim.Native.Nat.{ℕ, zero, suc}
 use mathlib.Core.Path.{◌≡◌, refl, ap}
 use mathlib.Core.Bool.{true, false, ◌&&◌, and-eq-true_iff, and-false}
 use mathlib.Core.List.{List, [], ◌∷◌}
-use native.Mathlib.Nat.{not-suc-le-zero, le_of_suc-le-suc}
 use lib.Dec.{ltb}
 use lib.ListN.{length, get_or, set, get_or-eq_default}
 use borrow.Author.Tests.{ltb-true, ltb-false}
+use Rattle.std.proofs.lemmas.List.{get_or_default}
 use Rattle.laws.proofs.Branches.{either}
 use Rattle.page.specs.declared.Page.{Page}
 use Rattle.page.specs.Page.{no_page, power_on_page}
@@ -18,12 +18,6 @@ use Rattle.device.specs.Device.{device, device_valid, supported}
 use Rattle.device.specs.Step.{Call, answered}
 use Rattle.device.proofs.States.{valid_parts}
 use Rattle.records.specs.Records.{taken, put_back}
-
--- within a list it does not matter what stands past its end
-pub same_at : {A : Type 0} (d e : A) (l : List A) (i : ℕ) → i < length l → get_or l i d ≡ get_or l i e
-same_at d e [] i h = absurd (not-suc-le-zero h)
-same_at d e (x ∷ l) zero h = refl
-same_at d e (x ∷ l) (suc i) h = same_at d e l i (le_of_suc-le-suc h)
 
 pub put_back_lem : {A : Type 0} (d : A) (l : List A) (i : ℕ) → set l i (get_or l i d) ≡ l
 put_back_lem d [] i = refl
@@ -62,5 +56,5 @@ off = refl
 
 pub supplies-taken : (ps : List Page) (i : ℕ) → supplies (get_or ps i power_on_page) ≡ (ltb i (length ps) && supplies (get_or ps i no_page))
 supplies-taken ps i =
-    either (ltb i (length ps)) (λ y. rw (y, same_at power_on_page no_page ps i (ltb-true i (length ps) y)))
+    either (ltb i (length ps)) (λ y. rw (y, get_or_default ps i power_on_page no_page (ltb-true i (length ps) y)))
     (λ n. rw (n, get_or-eq_default ps power_on_page (ltb-false i (length ps) n)) off)

@@ -1,23 +1,24 @@
 -- The device over lent records: the same definition of a call as the eight-page device has, its state split into the unpaged part, which
 -- comes back by value, and the records.
 -- Assumes nothing.
-use Rattle.std.specs.Prelude.{ℕ, Bool, false, cond, not, ◌&&◌, ◌||◌, List, length, eqb}
+use Rattle.std.specs.Prelude.{ℕ, Bool, false, cond, not, ◌&&◌, ◌||◌, Option, Some, None, Result, Ok, Err, List, length, eqb}
+use Rattle.answer.specs.declared.Refusal.{Refusal}
+use Rattle.answer.specs.Answer.{number_of as refusal_number}
 use Rattle.account.specs.Account.{sampled}
 use Rattle.page.specs.declared.Page.{Page}
 use Rattle.page.specs.Causes.{settled}
 use Rattle.page.specs.Settings.{set_measurement}
 use Rattle.page.specs.Status.{any, risen}
 use Rattle.unpaged.specs.declared.Unpaged.{Unpaged}
-use Rattle.unpaged.specs.Unpaged.{power_on_unpaged, every_page, refused, unpaged_valid, with_alert, with_energy}
+use Rattle.unpaged.specs.Unpaged.{every_page, refused, unpaged_valid, with_alert, with_energy}
 use Rattle.writes.specs.declared.asked.Write.{Write}
 use Rattle.writes.specs.Left.{page_left, unpaged_left, clearing}
 use Rattle.reads.specs.declared.request.Request.{Request}
 use Rattle.reads.specs.Data.{read_stream}
-use Rattle.reads.specs.Reply.{stream, alert_stream}
+use Rattle.reads.specs.Reply.{alert_stream}
 use Rattle.device.specs.declared.Done.{Done}
 use Rattle.device.specs.Device.{device, Choice, number_of, usual, supported, granted, chosen_unpaged, power_on}
 use Rattle.device.specs.Step.{done}
-use Rattle.records.specs.declared.Seen.{Seen}
 use Rattle.lent.specs.declared.Outcome.{Outcome}
 use Rattle.lent.specs.declared.turns.Turn.{Turn}
 use Rattle.lent.specs.declared.turns.Sending.{Sending}
@@ -37,26 +38,22 @@ powered_by x ps =
 abbrev pub powered : List Page → Done
 powered ps = powered_by (usual (length ps)) ps
 
--- the test for answer 15, by what is known of all records: `device_valid` of every list of records of which it is known
-unfoldable pub seen_valid : Seen → Unpaged → Bool
-seen_valid s u = supported s.number && unpaged_valid s.number u && s.valid
+-- the test for answer 15, by what is known of all records, their number where each is valid: `device_valid` of every list of records of which it
+-- is known
+unfoldable pub seen_valid : Option ℕ → Unpaged → Bool
+seen_valid None u = false
+seen_valid (Some n) u = supported n && unpaged_valid n u
 
--- the answer of a call whose rule answers so
-unfoldable pub seen_answer : Seen → Unpaged → ℕ → ℕ
-seen_answer s u rule = cond (seen_valid s u) rule 15
+-- the answer of a call whose rule, of so many records, answers so
+unfoldable pub seen_answer : Option ℕ → Unpaged → (ℕ → ℕ) → ℕ
+seen_answer None u rule = 15
+seen_answer (Some n) u rule = cond (seen_valid (Some n) u) (rule n) 15
 
 abbrev pub outcome : Unpaged → ℕ → Outcome
 outcome u answer = record { unpaged = u; answer = answer }
 
-abbrev pub turn : Outcome → Page → Bool → Bool → Turn
+abbrev pub turn : Outcome → Page → Option Write → Bool → Turn
 turn r p every clears = record { outcome = r; page = p; every = every; clears = clears }
-
-unfoldable pub powered_outcome : ℕ → Outcome
-powered_outcome n = outcome power_on_unpaged (cond (supported n) 0 15)
-
--- of n records by k choices, all of them granted or not
-unfoldable pub powered_by_outcome : ℕ → ℕ → Bool → Outcome
-powered_by_outcome n k all = outcome power_on_unpaged (cond (supported n) (cond (eqb k n && all) 0 27) 15)
 
 -- what an answer other than 0 leaves,
 unfoldable pub refused_outcome : Unpaged → ℕ → Outcome
@@ -70,10 +67,11 @@ abbrev pub accepted_unpaged : Unpaged → Page → Write → Unpaged
 accepted_unpaged u p w = with_alert (unpaged_left w u) ((unpaged_left w u).alert || (risen p (accepted_page u p w) && not (every_page u)))
 
 unfoldable pub accepted_turn : Unpaged → Page → Write → Turn
-accepted_turn u p w = turn (outcome (accepted_unpaged u p w) 0) (accepted_page u p w) (every_page u) (clearing w)
+accepted_turn u p w = turn (outcome (accepted_unpaged u p w) 0) (accepted_page u p w) (cond (every_page u) (Some w) None) (clearing w)
 
-unfoldable pub write_turn : Unpaged → Page → ℕ → Write → Turn
-write_turn u p answer w = cond (eqb answer 0) (accepted_turn u p w) (turn (refused_outcome u answer) p false false)
+unfoldable pub write_turn : Unpaged → Page → Result Write Refusal → Turn
+write_turn u p (Ok w) = accepted_turn u p w
+write_turn u p (Err refusal) = turn (refused_outcome u (refusal_number refusal)) p None false
 
 -- and an accepted measurement
 abbrev pub measured_page : Page → ℕ → ℕ → Page
@@ -81,10 +79,10 @@ measured_page p quantity word = settled (set_measurement p quantity word)
 
 unfoldable pub measured_turn : Unpaged → Page → ℕ → ℕ → Turn
 measured_turn u p quantity word =
-    turn (outcome (with_alert u (u.alert || risen p (measured_page p quantity word))) 0) (measured_page p quantity word) false false
+    turn (outcome (with_alert u (u.alert || risen p (measured_page p quantity word))) 0) (measured_page p quantity word) None false
 
 unfoldable pub measure_turn : Unpaged → Page → ℕ → ℕ → ℕ → Turn
-measure_turn u p answer quantity word = cond (eqb answer 0) (measured_turn u p quantity word) (turn (refused_outcome u answer) p false false)
+measure_turn u p answer quantity word = cond (eqb answer 0) (measured_turn u p quantity word) (turn (refused_outcome u answer) p None false)
 
 -- the alert rises with a bit that rose on any of all records; after a clearing it is up exactly while a bit stands, on some page or in
 -- STATUS_CML
@@ -102,9 +100,9 @@ alert_left u answer = cond (eqb answer 0) (outcome (with_alert u false) answer) 
 
 -- what is sent beside an outcome
 abbrev pub sending : Outcome → List ℕ → Sending
-sending r bytes = record { outcome = r; stream = stream bytes }
+sending r bytes = record { outcome = r; stream = bytes }
 
-unfoldable pub read_turn : Unpaged → Page → ℕ → Request → List ℕ → Sending
+unfoldable pub read_turn : Unpaged → Page → ℕ → Result Request Refusal → List ℕ → Sending
 read_turn u p answer request header = sending (refused_outcome u answer) (read_stream u p answer request header)
 
 unfoldable pub alert_turn : Unpaged → ℕ → Sending

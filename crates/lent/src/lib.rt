@@ -1,24 +1,30 @@
 // The device whose page records the firmware lends, 1 to 96 of them, as a slice; the unpaged part goes in and comes back by
 // value. Power-on and the calls of the eight-page device, over as many pages as are lent. Any number of records, and any
-// values in them, are taken; with none, or more than 96, a call reads no record. A call takes one record out, asks the rules by value, and puts it back; of the others it only
-// asks whether they are valid and, after a clearing, whether a status bit stands. A tick walks over all, and so does a write where PAGE is FFh:
-// no record has that index, so the one taken out is none of them, and putting it back sets none.
+// values in them, are taken; with none, or more than 96, a call reads no record. A call takes one record out, asks the rules by
+// value, and puts it back; of the others it only asks whether they are valid and, after a clearing, whether a status bit stands.
+// A tick walks over all, and so does a write where PAGE is FFh: no record has that index, so the one taken out is none of them, and
+// putting it back sets none.
 #![tactic(auto)]
 
-ghost use Rattle.std.specs.Prelude.{◌≡◌, ◌&&◌, ltb, length, get_or};
+ghost use Rattle.std.specs.Prelude.{◌≡◌, ◌&&◌, eqb, ltb, length, get_or};
 ghost use Rattle.page.specs.Page.{no_page};
 ghost use Rattle.page.specs.Status.{supplies};
 ghost use Rattle.device.specs.Device.{choice, device};
 ghost use Rattle.device.specs.Step.{write, read, measure, sample, alert_response, tick, step};
+ghost use Rattle.laws.specs.Lists.{all_of};
+ghost use Rattle.page.specs.Choice.{page_granted};
+ghost use Rattle.lent.specs.Every.{rising, swept};
 ghost use Rattle.lent.specs.Lent.{beside, powered, powered_by};
 
+use answer::Refusal;
 use page::{Page, PageChoice};
 use unpaged::Unpaged;
+use writes::Write;
 
 pub mod every; // every.rt: one write on every record, where PAGE is FFh
 pub mod turns; // turns.rt: what a call decides, by value
 
-// The unpaged part after a call, and the answer number.
+// The unpaged part after a call, and the answer number: a number and no Result, since C gets it.
 #[repr(C)]
 #[derive(Clone, Copy)]
 pub struct Outcome {
@@ -31,13 +37,18 @@ pub struct Outcome {
 pub extern "C" fn tongsorrel_lent_power_on(pages: &mut [Page]) -> Outcome
     ensures { beside result pages.new ≡ powered pages.old }
 {
-    let n = pages.len();
-    let r = turns::powered(n);
-    if r.answer != answer::DONE {
-        return r;
+    if !turns::lendable(pages.len()) {
+        return turns::powered(Err(Refusal::InvalidState));
     }
     records::power_on(pages);
-    r
+    turns::powered(Ok(()))
+}
+
+// As many choices as records, n, and each of them granted.
+fn all_granted(choices: &[PageChoice], n: usize) -> bool
+    ensures { result ≡ (eqb (length choices.now) n && all_of page_granted choices.now) }
+{
+    choices.len() == n && records::all_granted(choices)
 }
 
 // Sets every record by its choice. With another number of choices than of records, or where one is not granted, it sets every record as
@@ -46,19 +57,26 @@ pub extern "C" fn tongsorrel_lent_power_on(pages: &mut [Page]) -> Outcome
 pub extern "C" fn tongsorrel_lent_power_on_by(pages: &mut [Page], choices: &[PageChoice]) -> Outcome
     ensures { beside result pages.new ≡ powered_by (choice choices.now) pages.old }
 {
-    let n = pages.len();
-    let k = choices.len();
-    let seen = records::survey_choices(choices);
-    let r = turns::powered_by(n, k, seen.valid);
-    if r.answer == answer::INVALID_STATE {
-        return r;
+    if !turns::lendable(pages.len()) {
+        return turns::powered(Err(Refusal::InvalidState));
     }
-    if r.answer != answer::DONE {
+    if !all_granted(choices, pages.len()) {
         records::power_on(pages);
-        return r;
+        return turns::powered(Err(Refusal::InvalidFormat));
     }
     records::power_on_by(pages, choices);
-    r
+    turns::powered(Ok(()))
+}
+
+// The write that is still to be made on every record, where there is one: whether a status bit rose on any.
+fn rest(pages: &mut [Page], write: Option<Write>) -> bool
+    ensures rose { result ≡ rising write pages.old }
+    ensures after { pages.new ≡ swept write pages.old }
+{
+    match write {
+        Some(w) => every::every(pages, w),
+        None => false,
+    }
 }
 
 // A write transaction: the bytes from START to STOP.
@@ -68,11 +86,11 @@ pub extern "C" fn tongsorrel_lent_write(u: Unpaged, pages: &mut [Page], bytes: &
 {
     let seen = records::survey(pages);
     let p = records::take(pages, u.page);
-    let j = turns::judged(bytes, seen, u);
-    let t = turns::write_turn(seen, u, p, j);
+    let write = turns::judged(bytes, seen, u);
+    let t = turns::write_left(u, p, write);
     records::put(pages, u.page, t.page);
-    let rose = every::every(pages, j.write, t.every);
-    let standing = records::any_bit(pages, t.clears);
+    let rose = rest(pages, t.every);
+    let standing = t.clears && records::any_bit(pages);
     turns::finished(t.outcome, t.clears, rose, standing)
 }
 
@@ -87,16 +105,14 @@ pub extern "C" fn tongsorrel_lent_read(
     ensures { (beside result pages.now ≡ (step (device u pages.now) (read header.now (length reply.old))).done)
         × (reply.new ≡ (step (device u pages.now) (read header.now (length reply.old))).reply) }
 {
-    let n = reply.len();
     let seen = records::survey(pages);
-    let k = unpaged::shown(u);
-    let p = records::take(pages, k);
-    let t = turns::read_turn(header, seen, u, p, n);
-    reads::reply::send(reply, t.stream);
+    let p = records::take(pages, unpaged::shown(u));
+    let t = turns::read_turn(header, seen, u, p, reply.len());
+    reads::reply::send(reply, t.stream.as_slice());
     t.outcome
 }
 
-// The latest word of a quantity (0 VOUT, 1 IOUT, 2 VIN, 3 temperature) on a page.
+// The latest word of a quantity (0 VOUT, 1 IOUT, 2 VIN, 3 temperature: a number, as C gives it) on a page.
 #[unsafe(no_mangle)]
 pub extern "C" fn tongsorrel_lent_measure(
     u: Unpaged,
@@ -133,10 +149,9 @@ pub extern "C" fn tongsorrel_lent_alert_response(
     ensures { (beside result pages.now ≡ (step (device u pages.now) (alert_response (length reply.old))).done)
         × (reply.new ≡ (step (device u pages.now) (alert_response (length reply.old))).reply) }
 {
-    let n = reply.len();
     let seen = records::survey(pages);
-    let t = turns::alert_turn(seen, u, n);
-    reads::reply::send(reply, t.stream);
+    let t = turns::alert_turn(seen, u, reply.len());
+    reads::reply::send(reply, t.stream.as_slice());
     t.outcome
 }
 
@@ -155,15 +170,12 @@ pub extern "C" fn tongsorrel_lent_tick(u: Unpaged, pages: &mut [Page]) -> Outcom
 }
 
 // Whether page i supplies; no page beyond the records does. A question of one record, whatever their number.
+#[tactic(auto, unfolding(device::specs::Supply::supplies_at))]
 #[unsafe(no_mangle)]
 pub extern "C" fn tongsorrel_lent_supplies(pages: &[Page], i: u8) -> bool
     ensures { result ≡ (ltb i (length pages.now) && supplies (get_or pages.now i no_page)) }
 {
-    let k = i as usize;
-    if k < pages.len() {
-        return page::status::supplies(pages[k]);
-    }
-    false
+    device::supply::supplies(pages, i)
 }
 
 // The layout of `Unpaged`, `Page` and `Outcome` has a number, which stands in this name: a program made for another does not link.

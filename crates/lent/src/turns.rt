@@ -1,31 +1,38 @@
 // What a call decides, by value: from what is known of all records, the unpaged part and the one record that the call works
 // on. That this is the call's definition wherever it is known of the records lent is shown once (proofs/Known.antt).
-ghost use Rattle.std.specs.Prelude.{◌≡◌, cond, get_or};
+// These three are no struct: they come from three places, each is used without the others by what is called here, and a struct would
+// be made at each call for one use.
+ghost use Rattle.std.specs.Prelude.{◌≡◌, cond, true, false, Some, None, IfOk, IfErr};
+ghost use Rattle.answer.specs.Answer.{number_of, answer_of};
 ghost use Rattle.account.specs.Account.{sampled};
+ghost use Rattle.cause.specs.Kinds.{quantity_number};
+ghost use Rattle.unpaged.specs.Unpaged.{power_on_unpaged};
 ghost use Rattle.unpaged.specs.Events.{measure_answer, alert_answer};
 ghost use Rattle.writes.specs.Asked.{asked};
 ghost use Rattle.writes.specs.Answers.{write_answer};
 ghost use Rattle.writes.specs.Left.{page_left};
 ghost use Rattle.reads.specs.Request.{request_of};
-ghost use Rattle.reads.specs.Answers.{read_answer};
+ghost use Rattle.reads.specs.Answers.{request_answer, read_answer};
 ghost use Rattle.device.specs.Device.{supported};
-ghost use Rattle.lent.specs.Lent.{seen_valid, seen_answer, outcome, powered_outcome, powered_by_outcome, refused_outcome, accepted_turn, measured_turn, write_turn, measure_turn, finished, sample_left, alert_left, read_turn, alert_turn};
+ghost use Rattle.lent.specs.Lent.{seen_valid, seen_answer, outcome, turn, refused_outcome, accepted_turn, measured_turn, write_turn, measure_turn, finished, sample_left, alert_left, read_turn, alert_turn};
 
 use super::Outcome;
+use account::Account;
+use answer::Refusal;
+use cause::Quantity;
 use page::Page;
 use reads::reply::Stream;
-use records::Seen;
-use unpaged::Unpaged;
+use reads::request::Request;
+use unpaged::{EVERY_PAGE, Unpaged};
 use writes::Write;
-use writes::answers::Judged;
 
-// What a write or a measurement leaves: the record, and the unpaged part with its answer. Whether the write is still to be
-// made on every record, and whether the alert, after a clearing, is still to be worked out from all.
+// What a write or a measurement leaves: the record, and the unpaged part with its answer. The write that is still to be made on
+// every record, and whether the alert, after a clearing, is still to be worked out from all.
 #[derive(Clone, Copy)]
 pub struct Turn {
     pub outcome: Outcome,
     pub page: Page,
-    pub every: bool,
+    pub every: Option<Write>,
     pub clears: bool,
 }
 
@@ -36,77 +43,54 @@ pub struct Sending {
     pub stream: Stream,
 }
 
-// Power-on of n records.
-pub fn powered(n: usize) -> Outcome
-    ensures { result ≡ powered_outcome n }
-{
-    let u = unpaged::power_on_unpaged();
-    if (0 < n) & (n < 97) {
-        return Outcome {
-            unpaged: u,
-            answer: answer::DONE,
-        };
-    }
-    Outcome {
-        unpaged: u,
-        answer: answer::INVALID_STATE,
-    }
-}
-
 // So many records make a device.
-fn lendable(n: usize) -> bool
+#[tactic(auto, unfolding(device::specs::Device::supported))]
+pub(crate) fn lendable(n: usize) -> bool
     ensures { result ≡ supported n }
 {
-    (0 < n) & (n < 97)
+    (1..=96).contains(&n)
 }
 
-// Power-on of n records by k choices, all of them granted or not.
-pub fn powered_by(n: usize, k: usize, all: bool) -> Outcome
-    ensures { result ≡ powered_by_outcome n k all }
+// The number of records, of a state that no answer 15 goes to.
+#[tactic(auto, unfolding(crate::specs::Lent::seen_valid))]
+fn valid_number(seen: Option<u8>, u: Unpaged) -> Result<u8, Refusal>
+    ensures number { IfOk result (λ n. (seen ≡ Some n) × (seen_valid seen u ≡ true)) }
+    ensures refusal { IfErr result (λ e. (e ≡ Refusal.InvalidState) × (seen_valid seen u ≡ false)) }
 {
-    let u = unpaged::power_on_unpaged();
-    if !lendable(n) {
-        return Outcome {
-            unpaged: u,
-            answer: answer::INVALID_STATE,
-        };
+    match seen {
+        Some(n) if lendable(usize::from(n)) && unpaged::unpaged_valid(n, u) => Ok(n),
+        _ => Err(Refusal::InvalidState),
     }
-    if (k == n) & all {
-        return Outcome {
-            unpaged: u,
-            answer: answer::DONE,
-        };
-    }
+}
+
+// A call that is done leaves this unpaged part,
+fn done(u: Unpaged) -> Outcome
+    ensures { result ≡ outcome u 0 }
+{
     Outcome {
         unpaged: u,
-        answer: answer::INVALID_FORMAT,
+        answer: answer::DONE,
     }
 }
 
-// The state is one that no answer 15 goes to.
-fn state_valid(s: Seen, u: Unpaged) -> bool
-    ensures { result ≡ seen_valid s u }
+// and one that is refused all of it but a bit of STATUS_CML and the alert.
+#[tactic(auto, unfolding(crate::specs::Lent::refused_outcome))]
+fn refused(u: Unpaged, refusal: Refusal) -> Outcome
+    ensures { result ≡ refused_outcome u (number_of refusal) }
 {
-    (0 < s.number) & (s.number < 97) & unpaged::unpaged_valid(s.number, u) & s.valid
-}
-
-// The answer of a call whose rule answers so.
-fn answered(s: Seen, u: Unpaged, rule: u8) -> u8
-    ensures { result ≡ seen_answer s u rule }
-{
-    if !state_valid(s, u) {
-        return answer::INVALID_STATE;
-    }
-    rule
-}
-
-fn refused_outcome(u: Unpaged, answer: u8) -> Outcome
-    ensures { result ≡ refused_outcome u answer }
-{
-    let v = unpaged::refused(u, answer);
     Outcome {
-        unpaged: v,
-        answer: answer,
+        unpaged: unpaged::after(u, refusal),
+        answer: refusal.into(),
+    }
+}
+
+// Power-on with this answer.
+pub(crate) fn powered(answer: Result<(), Refusal>) -> Outcome
+    ensures { result ≡ outcome power_on_unpaged (answer_of answer) }
+{
+    Outcome {
+        unpaged: unpaged::power_on_unpaged(),
+        answer: answer::number(answer),
     }
 }
 
@@ -121,186 +105,207 @@ fn one_left(w: Write, p: Page, every: bool) -> Page
 }
 
 // An accepted write. Where it acts on every page the bits of p do not count.
+#[tactic(auto, unfolding(crate::specs::Lent::accepted_turn))]
 fn accepted(u: Unpaged, p: Page, w: Write) -> Turn
     ensures { result ≡ accepted_turn u p w }
 {
-    let every = u.page == 0xFF;
+    let every = u.page == EVERY_PAGE;
     let q = one_left(w, p, every);
     let mut v = writes::left::unpaged_left(w, u);
-    let rose = page::status::risen(p, q);
-    v.alert = v.alert | (rose & !every);
-    let done = Outcome {
-        unpaged: v,
-        answer: answer::DONE,
-    };
+    v.alert |= page::status::risen(p, q) & !every;
     Turn {
-        outcome: done,
+        outcome: done(v),
         page: q,
-        every: every,
+        every: every.then_some(w),
         clears: writes::left::clears(w),
     }
 }
 
-// A write with this answer, which asks for w where it is accepted.
-pub fn write_left(u: Unpaged, p: Page, answer: u8, w: Write) -> Turn
-    ensures { result ≡ write_turn u p answer w }
+// A refused write or measurement: the record p stays.
+fn unturned(u: Unpaged, p: Page, refusal: Refusal) -> Turn
+    ensures { result ≡ turn (refused_outcome u (number_of refusal)) p None false }
 {
-    if answer == answer::DONE {
-        return accepted(u, p, w);
-    }
-    let r = refused_outcome(u, answer);
     Turn {
-        outcome: r,
+        outcome: refused(u, refusal),
         page: p,
-        every: false,
+        every: None,
         clears: false,
     }
 }
 
-// The rule's answer to a write, and what the write asks for where it is accepted: its bytes are decoded here and nowhere else.
-pub fn judged(bytes: &[u8], s: Seen, u: Unpaged) -> Judged
-    ensures { (result.answer ≡ write_answer s.number u bytes.now) × (result.answer ≡ 0 → result.write ≡ asked bytes.now) }
+// A write that asks for this or is refused, and whose selected record is p.
+#[tactic(auto, unfolding(crate::specs::Lent::write_turn))]
+pub fn write_left(u: Unpaged, p: Page, write: Result<Write, Refusal>) -> Turn
+    ensures { result ≡ write_turn u p write }
 {
-    writes::answers::judge(s.number, u, bytes)
+    match write {
+        Ok(w) => accepted(u, p, w),
+        Err(refusal) => unturned(u, p, refusal),
+    }
 }
 
-// A write that was judged so, and whose selected record is p.
-pub fn write_turn(s: Seen, u: Unpaged, p: Page, j: Judged) -> Turn
-    ensures { result ≡ write_turn u p (seen_answer s u j.answer) j.write }
+// What a write asks for, if it is accepted: its bytes are decoded here and nowhere else.
+#[tactic(auto, using(crate::proofs::Seen::seen_accepted, crate::proofs::Seen::seen_refused))]
+pub fn judged(bytes: &[u8], seen: Option<u8>, u: Unpaged) -> Result<Write, Refusal>
+    ensures answer { answer_of result ≡ seen_answer seen u (λ n. write_answer n u bytes.now) }
+    ensures write { IfOk result (λ w. w ≡ asked bytes.now) }
 {
-    let w = j.write;
-    let answer = answered(s, u, j.answer);
-    write_left(u, p, answer, w)
+    let n = valid_number(seen, u)?;
+    writes::answers::judge(n, u, bytes)
 }
 
 // The outcome of a write: the alert rises with a bit that rose on any record; after a clearing it follows the bits that
 // stand.
+#[tactic(auto, unfolding(crate::specs::Lent::finished))]
 pub fn finished(r: Outcome, clears: bool, rose: bool, standing: bool) -> Outcome
     ensures { result ≡ finished r clears rose standing }
 {
     let mut v = r.unpaged;
-    v.alert = v.alert | rose;
+    v.alert |= rose;
     if clears {
         v.alert = standing | (v.cml != 0);
     }
-    Outcome {
-        unpaged: v,
-        answer: r.answer,
-    }
+    Outcome { unpaged: v, ..r }
 }
 
 // An accepted measurement.
-fn measured(u: Unpaged, p: Page, quantity: u8, word: u16) -> Turn
-    ensures { result ≡ measured_turn u p quantity word }
+#[tactic(auto, unfolding(crate::specs::Lent::measured_turn))]
+fn measured(u: Unpaged, p: Page, quantity: Quantity, word: u16) -> Turn
+    ensures { result ≡ measured_turn u p (quantity_number quantity) word }
 {
     let changed = page::settings::set_measurement(p, quantity, word);
     let q = page::causes::settled(changed);
     let mut v = u;
-    v.alert = u.alert | page::status::risen(p, q);
-    let done = Outcome {
-        unpaged: v,
-        answer: answer::DONE,
-    };
+    v.alert |= page::status::risen(p, q);
     Turn {
-        outcome: done,
+        outcome: done(v),
         page: q,
-        every: false,
+        every: None,
         clears: false,
     }
 }
 
-fn measure_left(u: Unpaged, p: Page, answer: u8, quantity: u8, word: u16) -> Turn
-    ensures { result ≡ measure_turn u p answer quantity word }
+// The quantity that a measurement names, if it is accepted.
+#[tactic(auto, using(crate::proofs::Seen::seen_accepted, crate::proofs::Seen::seen_refused))]
+fn measurable(seen: Option<u8>, u: Unpaged, page: u8, quantity: u8) -> Result<Quantity, Refusal>
+    ensures answer { answer_of result ≡ seen_answer seen u (λ n. measure_answer n page quantity) }
+    ensures named { IfOk result (λ q. quantity_number q ≡ quantity) }
 {
-    if answer == answer::DONE {
-        return measured(u, p, quantity, word);
-    }
-    let r = refused_outcome(u, answer);
-    Turn {
-        outcome: r,
-        page: p,
-        every: false,
-        clears: false,
-    }
+    let n = valid_number(seen, u)?;
+    unpaged::events::measure_answer(n, page, quantity)
 }
 
 // A measurement on a page whose record is p.
-pub fn measure_turn(s: Seen, u: Unpaged, p: Page, page: u8, quantity: u8, word: u16) -> Turn
-    ensures { result ≡ measure_turn u p (seen_answer s u (measure_answer s.number page quantity)) quantity word }
+#[tactic(auto, unfolding(crate::specs::Lent::measure_turn))]
+pub fn measure_turn(
+    seen: Option<u8>,
+    u: Unpaged,
+    p: Page,
+    page: u8,
+    quantity: u8,
+    word: u16,
+) -> Turn
+    ensures { result ≡ measure_turn u p (seen_answer seen u (λ n. measure_answer n page quantity)) quantity word }
 {
-    let rule = unpaged::events::measure_answer(s.number, page, quantity);
-    let answer = answered(s, u, rule);
-    measure_left(u, p, answer, quantity, word)
+    match measurable(seen, u, page, quantity) {
+        Ok(named) => measured(u, p, named, word),
+        Err(refusal) => unturned(u, p, refusal),
+    }
+}
+
+// The account after a power sample, if it is accepted.
+#[tactic(auto, using(crate::proofs::Seen::seen_accepted, crate::proofs::Seen::seen_refused))]
+fn booked(seen: Option<u8>, u: Unpaged, power: u16) -> Result<Account, Refusal>
+    ensures answer { answer_of result ≡ seen_answer seen u (λ n. (sampled u.energy power).answer) }
+    ensures account { IfOk result (λ a. a ≡ (sampled u.energy power).account) }
+{
+    valid_number(seen, u)?;
+    account::sample(u.energy, power)
 }
 
 // A power sample.
-pub fn sample_outcome(s: Seen, u: Unpaged, power: u16) -> Outcome
-    ensures { result ≡ sample_left u (seen_answer s u (sampled u.energy power).answer) power }
+#[tactic(auto, unfolding(crate::specs::Lent::sample_left))]
+pub fn sample_outcome(seen: Option<u8>, u: Unpaged, power: u16) -> Outcome
+    ensures { result ≡ sample_left u (seen_answer seen u (λ n. (sampled u.energy power).answer)) power }
 {
-    let energy = u.energy;
-    let sampled = account::sample(energy, power);
-    let answer = answered(s, u, sampled.answer);
-    if answer == answer::DONE {
-        let a = sampled.account;
-        let v = unpaged::with_energy(u, a);
-        return Outcome {
-            unpaged: v,
-            answer: answer,
-        };
+    match booked(seen, u, power) {
+        Ok(energy) => done(unpaged::with_energy(u, energy)),
+        Err(refusal) => refused(u, refusal),
     }
-    refused_outcome(u, answer)
 }
 
 // A tick.
-pub fn tick_outcome(s: Seen, u: Unpaged) -> Outcome
-    ensures { result ≡ outcome u (seen_answer s u 0) }
+#[tactic(auto, using(crate::proofs::Seen::seen_accepted, crate::proofs::Seen::seen_refused))]
+pub fn tick_outcome(seen: Option<u8>, u: Unpaged) -> Outcome
+    ensures { result ≡ outcome u (seen_answer seen u (λ n. 0)) }
 {
-    let answer = answered(s, u, answer::DONE);
-    Outcome {
-        unpaged: u,
-        answer: answer,
+    match valid_number(seen, u) {
+        Ok(_) => done(u),
+        Err(refusal) => Outcome {
+            unpaged: u,
+            answer: refusal.into(),
+        },
     }
+}
+
+// The answer of a read that asks for this, of the record p, with n bytes clocked.
+#[tactic(auto, using(crate::proofs::Seen::seen_accepted, crate::proofs::Seen::seen_refused))]
+fn readable(
+    seen: Option<u8>,
+    u: Unpaged,
+    p: Page,
+    request: Result<Request, Refusal>,
+    n: usize,
+) -> Result<(), Refusal>
+    ensures { answer_of result ≡ seen_answer seen u (λ k. request_answer u p request n) }
+{
+    valid_number(seen, u)?;
+    reads::answers::request_answer(u, p, request, n)
 }
 
 // A read that looks at the record p, with n bytes clocked.
-pub fn read_turn(header: &[u8], s: Seen, u: Unpaged, p: Page, n: usize) -> Sending
-    ensures { result ≡ read_turn u p (seen_answer s u (read_answer u p header.now n)) (request_of header.now) header.now }
+pub fn read_turn(header: &[u8], seen: Option<u8>, u: Unpaged, p: Page, n: usize) -> Sending
+    ensures { result ≡ read_turn u p (seen_answer seen u (λ k. read_answer u p header.now n)) (request_of header.now) header.now }
 {
     let request = reads::request::request_of(header);
-    let rule = reads::answers::request_answer(u, p, request, n);
-    let answer = answered(s, u, rule);
-    let sent = reads::data::read_stream(u, p, answer, request, header);
-    let r = refused_outcome(u, answer);
+    let answer = answer::number(readable(seen, u, p, request, n));
     Sending {
-        outcome: r,
-        stream: sent,
+        outcome: Outcome {
+            unpaged: unpaged::refused(u, answer),
+            answer,
+        },
+        stream: reads::data::read_stream(u, p, answer, request, header),
     }
 }
 
-fn alert_down(u: Unpaged, answer: u8) -> Outcome
-    ensures { result ≡ alert_left u answer }
+// The answer of an alert response of n bytes.
+#[tactic(auto, using(crate::proofs::Seen::seen_accepted, crate::proofs::Seen::seen_refused))]
+fn answerable(seen: Option<u8>, u: Unpaged, n: usize) -> Result<(), Refusal>
+    ensures { answer_of result ≡ seen_answer seen u (λ k. alert_answer u.alert n) }
 {
-    if answer == answer::DONE {
-        let mut v = u;
-        v.alert = false;
-        return Outcome {
-            unpaged: v,
-            answer: answer,
-        };
+    valid_number(seen, u)?;
+    unpaged::events::alert_answer(u.alert, n)
+}
+
+// What an alert response with this answer leaves: the alert down, where it is answered.
+#[tactic(auto, unfolding(crate::specs::Lent::alert_left))]
+fn alert_down(u: Unpaged, answer: Result<(), Refusal>) -> Outcome
+    ensures { result ≡ alert_left u (answer_of answer) }
+{
+    match answer {
+        Ok(()) => done(Unpaged { alert: false, ..u }),
+        Err(refusal) => refused(u, refusal),
     }
-    refused_outcome(u, answer)
 }
 
 // An alert response of n bytes.
-pub fn alert_turn(s: Seen, u: Unpaged, n: usize) -> Sending
-    ensures { result ≡ alert_turn u (seen_answer s u (alert_answer u.alert n)) }
+#[tactic(auto, unfolding(crate::specs::Lent::alert_turn))]
+pub fn alert_turn(seen: Option<u8>, u: Unpaged, n: usize) -> Sending
+    ensures { result ≡ alert_turn u (seen_answer seen u (λ k. alert_answer u.alert n)) }
 {
-    let rule = unpaged::events::alert_answer(u.alert, n);
-    let answer = answered(s, u, rule);
-    let sent = reads::reply::alert_stream(answer);
-    let r = alert_down(u, answer);
+    let answer = answerable(seen, u, n);
     Sending {
-        outcome: r,
-        stream: sent,
+        outcome: alert_down(u, answer),
+        stream: reads::reply::alert_stream(answer),
     }
 }

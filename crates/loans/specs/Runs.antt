@@ -1,7 +1,7 @@
 -- Runs of the device over lent records: power-on, then its own calls, each with the unpaged part and the records as the call before it left
 -- them, and anywhere between them stray calls, which are lent something else and get 15.
 -- Assumes nothing.
-use Rattle.std.specs.Prelude.{ℕ, ◌≡◌, true, List, [], ◌∷◌, map, length}
+use Rattle.std.specs.Prelude.{◌≡◌, true, List, [], ◌∷◌, map, length}
 use Rattle.page.specs.declared.Page.{Page}
 use Rattle.energy.specs.Reply.{Copy}
 use Rattle.energy.specs.Events.{Log, fresh_log}

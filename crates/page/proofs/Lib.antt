@@ -1,4 +1,6 @@
 pub mod Written
+pub mod Cleared
+pub mod Sides
 pub mod Settled
 pub mod Setters
 pub mod Ready

@@ -12,8 +12,8 @@ use lib.IntN.{pos, ◌*ℤ◌}
 use lib.ListN.{get_or}
 use lib.Signed.{◌<ℤ◌}
 use Rattle.laws.proofs.Branches.{either, and_yes}
-use Rattle.linear11.specs.declared.Order.{Order}
-use Rattle.linear11.specs.declared.Order.TheVariants.{Below, Equal, Above}
+use Rattle.std.specs.declared.cmp.Ordering.{Ordering}
+use Rattle.std.specs.declared.cmp.Ordering.TheVariants.{Less, Equal, Greater}
 use Rattle.linear11.specs.Comparison.{ComparesExactly}
 use Rattle.linear11.proofs.Comparison.{compares_exactly}
 use Rattle.value.specs.declared.format.Format.{Format}
@@ -28,17 +28,17 @@ use Rattle.page.specs.Causes.{order_by, on_side, crossed, present_causes, presen
 use Rattle.page.specs.Presence.{value_of, Past, Beyond, PresentExactly}
 
 -- the order that counts on each side
-above-is : (o : Order) → on_side above o ≡ true → o ≡ Above
+above-is : (o : Ordering) → on_side above o ≡ true → o ≡ Greater
 unfolding on_side
-above-is Below h = absurd (false≢true h)
+above-is Less h = absurd (false≢true h)
 above-is Equal h = absurd (false≢true h)
-above-is Above h = refl
+above-is Greater h = refl
 
-below-is : (o : Order) → on_side below o ≡ true → o ≡ Below
+below-is : (o : Ordering) → on_side below o ≡ true → o ≡ Less
 unfolding on_side
-below-is Below h = refl
+below-is Less h = refl
 below-is Equal h = absurd (false≢true h)
-below-is Above h = absurd (false≢true h)
+below-is Greater h = absurd (false≢true h)
 
 -- output voltage words as fractions over 1
 whole-less : (a b : ℕ) → (pos a *ℤ pos 1) <ℤ (pos b *ℤ pos 1) → a < b

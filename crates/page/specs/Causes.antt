@@ -3,29 +3,28 @@
 use Rattle.std.specs.Prelude.{ℕ, ◌^◌, Bool, true, false, cond, ◌&&◌, ◌||◌, List, [], ◌∷◌, ◌++◌, map, get_or, eqb}
 use Rattle.std.specs.Int.Bits.{bit_or}
 use Rattle.laws.specs.Lists.{any_of}
-use Rattle.linear11.specs.declared.Order.{Order}
-use Rattle.linear11.specs.declared.Order.TheVariants.{Below, Equal, Above}
+use Rattle.std.specs.declared.cmp.Ordering.{Ordering}
+use Rattle.std.specs.declared.cmp.Ordering.TheVariants.{Less, Equal, Greater}
 use Rattle.linear11.specs.Linear11.{word_order}
 use Rattle.value.specs.declared.format.Format.{Format}
 use Rattle.value.specs.Format.{format_order}
 use Rattle.retry.specs.Machines.{all_at_call, all_at_tick, any_trips, any_trips_now}
 use Rattle.cause.specs.Causes.{Side, above, below, VOUT, Limit, causes, faults, warnings, limits, trips_at, lasts_at, register}
 use Rattle.page.specs.declared.Page.{Page}
-use Rattle.page.specs.declared.causes.Update.{Update}
 use Rattle.page.specs.Page.{format_in, with_machines, with_status, with_tripped}
 
 -- how a word stands to a limit of that quantity (data sheet 5.2, 5.5): VOUT's as plain numbers, the others by their values in the quantity's format
-unfoldable pub order_by : List Format → ℕ → ℕ → ℕ → Order
+unfoldable pub order_by : List Format → ℕ → ℕ → ℕ → Ordering
 order_by fs quantity word limit = cond (eqb quantity VOUT) (word_order word limit) (format_order (format_in fs quantity) word limit)
 
 -- the order is that of the side; equal is on neither
-unfoldable pub on_side : Side → Order → Bool
-on_side above Below = false
+unfoldable pub on_side : Side → Ordering → Bool
+on_side above Less = false
 on_side above Equal = false
-on_side above Above = true
-on_side below Below = true
+on_side above Greater = true
+on_side below Less = true
 on_side below Equal = false
-on_side below Above = false
+on_side below Greater = false
 
 -- the latest word of the limit's quantity, if there is one, is past the limit on its side (data sheet 6.2)
 unfoldable pub crossed : Page → Limit → Bool
@@ -86,10 +85,6 @@ moved p ms =
 -- start (data sheet 6.4, 6.14, 7.8).
 unfoldable pub settled : Page → Page
 settled p = with_status (moved p (all_at_call p.responses (present_causes p) p.machines)) (raised p.status (present_limits p))
-
--- what that changes of the page
-unfoldable pub update_of : Page → Update
-update_of p = record { machines = (settled p).machines; status = (settled p).status; tripped = (settled p).tripped }
 
 -- A tick on a page: its machines move on; no bit is set (data sheet 7.9).
 unfoldable pub ticked : Page → Page

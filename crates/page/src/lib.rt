@@ -7,7 +7,8 @@ ghost use Rattle.std.specs.Prelude.{◌≡◌, cond};
 ghost use Rattle.page.specs.Page.{power_on_page};
 ghost use Rattle.page.specs.Choice.{page_granted, chosen_limits, chosen_page};
 
-use value::format::Format;
+use retry::REST;
+use value::format::{Format, LINEAR};
 
 pub mod causes; // causes.rt: which causes and warnings are present, and what they leave on the page
 pub mod formats; // formats.rt: the format of a quantity
@@ -19,6 +20,7 @@ pub mod status; // status.rt: STATUS_BYTE, STATUS_WORD and whether the page supp
 // Words and measured, by quantity: 0 VOUT, 1 IOUT, 2 VIN, 3 temperature.
 // Formats: 0 IOUT, 1 VIN, 2 temperature. VOUT has none.
 // Status: 0 STATUS_VOUT, 1 STATUS_IOUT, 2 STATUS_INPUT, 3 STATUS_TEMPERATURE.
+// Lists beside each other, marks beside words, and bytes for what has a name elsewhere: the C interface.
 #[repr(C)]
 #[derive(Clone, Copy)]
 pub struct Page {
@@ -34,7 +36,8 @@ pub struct Page {
     pub formats: [Format; 3],
 }
 
-// What is chosen for a page at power-on: formats as in a page, and fault limits by cause, of which those of DIRECT quantities count.
+// What is chosen for a page at power-on: formats as in a page, and fault limits by cause, of which those of DIRECT quantities count;
+// as C has them.
 #[repr(C)]
 #[derive(Clone, Copy)]
 pub struct PageChoice {
@@ -42,38 +45,47 @@ pub struct PageChoice {
     pub limits: [u16; 6],
 }
 
-// The page as power-on leaves it.
+// The fault limits at power-on.
+const VOUT_OV_LIMIT: u16 = 0x2A3D;
+
+const IOUT_OC_LIMIT: u16 = 0xD280;
+
+const OT_LIMIT: u16 = 0xEB70;
+
+const UT_LIMIT: u16 = 0xEEC0;
+
+const VIN_OV_LIMIT: u16 = 0xD3FF;
+
+const VIN_UV_LIMIT: u16 = 0xC3F5;
+
+// The page as power-on leaves it. A warning starts from the limit of the fault it warns of.
+#[tactic(auto, unfolding(crate::specs::Page::power_on_page, cause::specs::Causes::causes, cause::specs::Causes::warnings))]
 pub fn power_on_page() -> Page
     ensures { result ≡ power_on_page }
 {
     Page {
-        operation: 0,
+        operation: settings::OFF,
         command: 0x2666,
         limits: [
-            0x2A3D, // VOUT_OV
-            0xD280, // IOUT_OC
-            0xEB70, // OT
-            0xEEC0, // UT
-            0xD3FF, // VIN_OV
-            0xC3F5, // VIN_UV
-            0x2A3D, // VOUT_OV warning
-            0xD280, // IOUT_OC warning
-            0xEB70, // OT warning
-            0xD3FF, // VIN_OV warning
-            0xC3F5, // VIN_UV warning
+            VOUT_OV_LIMIT,
+            IOUT_OC_LIMIT,
+            OT_LIMIT,
+            UT_LIMIT,
+            VIN_OV_LIMIT,
+            VIN_UV_LIMIT,
+            VOUT_OV_LIMIT,
+            IOUT_OC_LIMIT,
+            OT_LIMIT,
+            VIN_OV_LIMIT,
+            VIN_UV_LIMIT,
         ],
         responses: [0x80, 0xC0, 0x80, 0x80, 0x80, 0x80],
-        machines: [0, 0, 0, 0, 0, 0],
-        words: [0, 0, 0, 0],
-        measured: [false, false, false, false],
-        status: [0, 0, 0, 0],
+        machines: [REST; 6],
+        words: [0; 4],
+        measured: [false; 4],
+        status: [0; 4],
         tripped: false,
-        formats: [Format {
-            direct: false,
-            m: 0,
-            b: 0,
-            r: 0,
-        }; 3],
+        formats: [LINEAR; 3],
     }
 }
 
@@ -81,43 +93,54 @@ pub fn power_on_page() -> Page
 fn limit_at(f: Format, chosen: u16, usual: u16) -> u16
     ensures { result ≡ cond f.direct chosen usual }
 {
-    if f.direct {
-        return chosen;
-    }
-    usual
+    if f.direct { chosen } else { usual }
 }
 
 // The eleven limits: VOUT_OV's, those of the other causes, and for each warning that of the fault it warns of.
+#[tactic(auto, unfolding(crate::specs::Choice::chosen_limits, cause::specs::Causes::causes, cause::specs::Causes::warnings))]
 fn chosen_limits(c: PageChoice) -> [u16; 11]
     ensures { result ≡ chosen_limits c }
 {
-    let iout = c.formats[0];
-    let input = c.formats[1];
-    let temperature = c.formats[2];
-    let oc = limit_at(iout, c.limits[1], 0xD280);
-    let ot = limit_at(temperature, c.limits[2], 0xEB70);
-    let ut = limit_at(temperature, c.limits[3], 0xEEC0);
-    let ov = limit_at(input, c.limits[4], 0xD3FF);
-    let uv = limit_at(input, c.limits[5], 0xC3F5);
-    [0x2A3D, oc, ot, ut, ov, uv, 0x2A3D, oc, ot, ov, uv]
+    let [iout, input, temperature] = c.formats;
+    let [_, oc, ot, ut, ov, uv] = c.limits;
+    let oc = limit_at(iout, oc, IOUT_OC_LIMIT);
+    let ot = limit_at(temperature, ot, OT_LIMIT);
+    let ut = limit_at(temperature, ut, UT_LIMIT);
+    let ov = limit_at(input, ov, VIN_OV_LIMIT);
+    let uv = limit_at(input, uv, VIN_UV_LIMIT);
+    [
+        VOUT_OV_LIMIT,
+        oc,
+        ot,
+        ut,
+        ov,
+        uv,
+        VOUT_OV_LIMIT,
+        oc,
+        ot,
+        ov,
+        uv,
+    ]
 }
 
 // Whether power-on grants a choice.
+#[tactic(auto, unfolding(crate::specs::Choice::page_granted))]
 pub fn page_granted(c: PageChoice) -> bool
     ensures { result ≡ page_granted c }
 {
-    let formats = c.formats;
-    settings::formats_valid(formats)
+    settings::formats_valid(c.formats)
 }
 
 // The page as power-on leaves it by a choice.
+#[tactic(auto, unfolding(crate::specs::Choice::chosen_page))]
 pub fn chosen_page(c: PageChoice) -> Page
     ensures { result ≡ chosen_page c }
 {
     let formats = c.formats;
     let limits = chosen_limits(c);
-    let mut p = power_on_page();
-    p.limits = limits;
-    p.formats = formats;
-    p
+    Page {
+        limits,
+        formats,
+        ..power_on_page()
+    }
 }

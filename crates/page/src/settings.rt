@@ -1,74 +1,80 @@
 // What a host writes to a page and what is measured on it, each one change; and which data are valid.
-ghost use Rattle.std.specs.Prelude.{◌≡◌, cond};
-ghost use Rattle.page.specs.Page.{resting};
+ghost use Rattle.std.specs.Prelude.{◌≡◌};
+ghost use Rattle.laws.specs.Bits.{without};
+ghost use Rattle.cause.specs.Kinds.{quantity_number, limit_number};
 ghost use Rattle.page.specs.Settings.{valid_operation, valid_response, formats_valid, page_valid, set_operation, set_vout_command, set_limit, set_response, set_measurement, clear_bits};
 
 use super::Page;
+use cause::{Cause, Limit, Quantity};
+use retry::REST;
 use value::format::Format;
 
+// The values of OPERATION: off at once, off, on.
+pub(crate) const OFF: u8 = 0x00;
+
+const SOFT_OFF: u8 = 0x40;
+
+pub(crate) const ON: u8 = 0x80;
+
+#[tactic(auto, unfolding(crate::specs::Settings::valid_operation))]
 pub fn valid_operation(x: u8) -> bool
     ensures { result ≡ valid_operation x }
 {
-    (x == 0) | (x == 0x40) | (x == 0x80)
+    matches!(x, OFF | SOFT_OFF | ON)
 }
 
-// Response 1 is IOUT_OC's: its bytes have the meanings of a current fault. Every byte is valid data of the others.
+// The number of the cause whose response has the meanings of a current fault, and its bytes: to go on, and to shut down and stay off.
+const IOUT_OC: u8 = Cause::IoutOc as u8;
+
+const GO_ON: u8 = 0x00;
+
+pub const SHUT_DOWN: u8 = 0xC0;
+
+// Whether a byte is valid data of a response. The cause comes as its number, of which docs/PROMISES.md (3.6) promises every one. Every byte is
+// valid data of the responses other than IOUT_OC's.
 pub fn valid_response(k: u8, x: u8) -> bool
     ensures { result ≡ valid_response k x }
 {
-    (k != 1) | (x == 0) | (x == 0xC0)
+    (k != IOUT_OC) | (x == GO_ON) | (x == SHUT_DOWN)
 }
 
 // Under each DIRECT mark the coefficients are valid.
 pub fn formats_valid(formats: [Format; 3]) -> bool
     ensures { result ≡ formats_valid formats }
 {
-    let iout = formats[0];
-    let input = formats[1];
-    let temperature = formats[2];
-    value::format::format_valid(iout)
-        & value::format::format_valid(input)
-        & value::format::format_valid(temperature)
+    formats.iter().all(|&f| value::format::format_valid(f))
 }
 
-// A page that no answer 15 goes to: OPERATION and every response are valid data, every machine is in a state that runs reach, and every DIRECT
-// format has valid coefficients.
+// A page that no answer 15 goes to: OPERATION and every response are valid data, every machine is in a state that runs reach, and every
+// DIRECT format has valid coefficients.
 pub fn page_valid(p: Page) -> bool
     ensures { result ≡ page_valid p }
 {
-    let machines = p.machines;
-    let formats = p.formats;
     valid_operation(p.operation)
-        & valid_response(1, p.responses[1])
-        & retry::machines::all_valid(machines)
-        & formats_valid(formats)
+        & valid_response(IOUT_OC, p.responses[usize::from(IOUT_OC)])
+        & retry::machines::all_valid(p.machines)
+        & formats_valid(p.formats)
 }
 
-// The machines, or all of them at rest.
-fn rested(machines: [u8; 6], rest: bool) -> [u8; 6]
-    ensures { result ≡ cond rest resting machines }
-{
-    if rest {
-        return [0, 0, 0, 0, 0, 0];
-    }
-    machines
-}
+// The setters below change a copy of the page and have no struct update: that copies field by field, which is 800 bytes more on a Cortex-M0, where
+// firmware/test has a limit for the code.
 
 // OPERATION: 00h and 40h also put the machines to rest and untrip the page.
+#[tactic(auto, unfolding(crate::specs::Settings::set_operation))]
 pub fn set_operation(p: Page, x: u8) -> Page
     ensures { result ≡ set_operation p x }
 {
-    let off = (x == 0) | (x == 0x40);
-    let before = p.machines;
-    let machines = rested(before, off);
     let mut q = p;
     q.operation = x;
-    q.machines = machines;
-    q.tripped = p.tripped & !off;
+    if matches!(x, OFF | SOFT_OFF) {
+        q.machines = [REST; 6];
+        q.tripped = false;
+    }
     q
 }
 
 // VOUT_COMMAND
+#[tactic(auto, unfolding(crate::specs::Settings::set_vout_command))]
 pub fn set_vout_command(p: Page, word: u16) -> Page
     ensures { result ≡ set_vout_command p word }
 {
@@ -77,48 +83,53 @@ pub fn set_vout_command(p: Page, word: u16) -> Page
     q
 }
 
-pub fn set_limit(p: Page, k: u8, word: u16) -> Page
-    ensures { result ≡ set_limit p k word }
+#[tactic(auto, unfolding(crate::specs::Settings::set_limit))]
+pub fn set_limit(p: Page, limit: Limit, word: u16) -> Page
+    ensures { result ≡ set_limit p (limit_number limit) word }
 {
-    let i = (k % 11) as usize;
     let mut q = p;
-    q.limits[i] = word;
+    q.limits[limit as usize] = word;
     q
 }
 
-// A response; its machine is put to rest.
+// A response; its machine is put to rest. The cause comes as its number, of which docs/PROMISES.md (7.11) promises every one.
+#[tactic(auto, unfolding(crate::specs::Settings::set_response))]
 pub fn set_response(p: Page, k: u8, x: u8) -> Page
     ensures { result ≡ set_response p k x }
 {
-    let i = (k % 6) as usize;
+    let i = usize::from(k % 6);
     let mut q = p;
     q.responses[i] = x;
-    q.machines[i] = 0;
+    q.machines[i] = REST;
     q
 }
 
 // The latest word of a quantity.
-pub fn set_measurement(p: Page, quantity: u8, word: u16) -> Page
-    ensures { result ≡ set_measurement p quantity word }
+#[tactic(auto, unfolding(crate::specs::Settings::set_measurement))]
+pub fn set_measurement(p: Page, quantity: Quantity, word: u16) -> Page
+    ensures { result ≡ set_measurement p (quantity_number quantity) word }
 {
-    let i = (quantity % 4) as usize;
+    let i = quantity as usize;
     let mut q = p;
     q.words[i] = word;
     q.measured[i] = true;
     q
 }
 
+// x without the bits of a mask.
+#[tactic(auto, using(crate::proofs::Cleared::cleared), unfolding(laws::specs::Bits::without))]
+fn without(x: u8, mask: u8) -> u8
+    ensures { result ≡ without x mask }
+{
+    x & !mask
+}
+
 // Each of the four status registers loses the bits of its mask. The page stays tripped.
 pub fn clear_bits(p: Page, masks: [u8; 4]) -> Page
     ensures { result ≡ clear_bits p masks }
 {
-    let s = p.status;
+    let status = std::array::from_fn(|j| without(p.status[j], masks[j]));
     let mut q = p;
-    q.status = [
-        s[0] ^ (s[0] & masks[0]),
-        s[1] ^ (s[1] & masks[1]),
-        s[2] ^ (s[2] & masks[2]),
-        s[3] ^ (s[3] & masks[3]),
-    ];
+    q.status = status;
     q
 }

@@ -7,14 +7,14 @@ use native.Mathlib.Nat.{add-zero, div-add-mod'}
 use native.Mathlib.Omega.{arith}
 use mathlib.Core.List.{List, [], ◌∷◌, ◌++◌}
 use lib.Dec.{T, eqb, ltb, lit<}
-use lib.Bits.{bit_xor, xor_shr, xor_mod, xor_lt, xor_block, xor_shifted, xor_zero_r}
+use lib.Bits.{bit_xor, xor_shr, xor_mod, xor_lt, xor_block, xor_shifted, xor_zero_r, xor_assoc}
 use borrow.Author.Tests.{lt-ltb, le-ltb, ltb-true, ltb-false}
 use Rattle.laws.specs.Lists.{Bytes}
 use Rattle.laws.proofs.Every.{each, agree}
 use Rattle.pec.specs.Pec.{pec_bit, pec_byte, pec_from}
 use Rattle.pec.specs.Burst.{bits8, bus_bits}
 use Rattle.pec.proofs.Laws.{bit-lt}
-use Rattle.pec.proofs.Xor.{xor_assoc, xor_swap}
+use Rattle.pec.proofs.Xor.{xor_swap}
 
 -- one bit of input flips the register's high bit, and the register is shifted
 abbrev pub num : Bool → ℕ

@@ -19,10 +19,8 @@ pub fn pec_byte(crc: u8, b: u8) -> u8
     ensures { result ≡ pec_byte crc b }
 {
     let mut x = crc ^ b;
-    let mut k: u32 = 0;
-    while k < 8 {
+    for _ in 0..u8::BITS {
         x = pec_bit(x);
-        k += 1;
     }
     x
 }
@@ -32,15 +30,14 @@ pub fn pec_from(crc: u8, s: &[u8]) -> u8
     ensures { result ≡ pec_from crc s.now }
 {
     let mut r = crc;
-    let mut i = 0;
-    while i < s.len() {
-        r = table::byte(r, s[i]);
-        i += 1;
+    for &b in s {
+        r = table::byte(r, b);
     }
     r
 }
 
 // The check of a whole transaction, address bytes included.
+#[tactic(auto, unfolding(crate::specs::Pec::pec))]
 pub fn pec(s: &[u8]) -> u8
     ensures { result ≡ pec s.now }
 {

@@ -1,8 +1,8 @@
 -- The answer of a read is the lowest that applies.
 -- Assumes nothing.
 use Prim.Native.Nat.{ℕ}
-use mathlib.Core.Path.{◌≡◌, refl, sym, ap, ◌∙◌}
-use mathlib.Core.Bool.{Bool, true, false, cond, not, ◌&&◌, ◌||◌, and-true, and-false, or-false}
+use mathlib.Core.Path.{◌≡◌, refl}
+use mathlib.Core.Bool.{Bool, true, false, cond, not, ◌||◌, and-true, and-false}
 use mathlib.Core.List.{List}
 use lib.ListN.{length, get_or}
 use lib.Dec.{eqb}
@@ -14,11 +14,9 @@ use Rattle.command.specs.Table.{lookup}
 use Rattle.command.specs.Paged.{paged}
 use Rattle.page.specs.declared.Page.{Page}
 use Rattle.unpaged.specs.declared.Unpaged.{Unpaged}
-use Rattle.unpaged.specs.Unpaged.{every_page}
 use Rattle.reads.specs.Request.{plain_of, coefficients_of, process_of, addressed_of, request_of}
-use Rattle.reads.specs.Coefficients.{has_coefficients}
 use Rattle.reads.specs.Answers.{data_answer, request_answer, read_answer}
-use Rattle.reads.specs.Applies.{code, has_them, read_lines, AnswersApply}
+use Rattle.reads.specs.Applies.{code, read_lines, AnswersApply}
 use Rattle.reads.proofs.HasThem.{has_them_lem}
 
 -- COEFFICIENTS is a code of a page

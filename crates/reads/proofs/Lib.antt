@@ -1,5 +1,5 @@
-pub mod Fill
 pub mod Streams
+pub mod Sent
 pub mod Lengths
 pub mod HasThem
 pub mod Applies

@@ -1,21 +1,21 @@
 -- What stands in the reply of a read, by its answer.
 -- Assumes nothing.
-use Prim.Native.Nat.{ℕ, zero, suc, ◌+◌, ◌-◌, ◌≤◌, ◌<◌}
+use Prim.Native.Nat.{ℕ, ◌+◌, ◌-◌, ◌≤◌, ◌<◌}
 use mathlib.Core.Path.{◌≡◌, refl, sym, ap, ◌∙◌}
 use mathlib.Core.Bool.{Bool, true, false, not, ◌&&◌, ◌||◌}
-use mathlib.Core.Logic.{◌⊎◌, inl, inr, ⊎_elim}
+use mathlib.Core.Logic.{inl, inr, ⊎_elim}
 use mathlib.Core.List.{List, [], ◌∷◌, ◌++◌, append_assoc}
-use native.Mathlib.Nat.{le_refl, le_of_suc-le-suc}
+use native.Mathlib.Nat.{le_refl}
 use native.Mathlib.Omega.{arith}
-use lib.ListN.{length, get_or, take, replicate, length-take, length-append, length-replicate}
+use lib.ListN.{length, get_or, take, replicate, length-append, length-replicate}
 use lib.Dec.{eqb, ltb}
 use borrow.Author.Tests.{ltb-true}
-use lib.Seq.{take-append-le, take-append-add, take_all}
+use lib.Seq.{take-append-le, take_all}
 use Rattle.laws.proofs.Branches.{either}
 use Rattle.laws.proofs.Every.{agree, agree-test}
 use Rattle.cause.specs.Causes.{limit_of, read_codes}
 use Rattle.command.specs.Table.{table, lookup, entry_of}
-use Rattle.command.specs.Meaning.{command_of, setting_of, fault_of, reading_of}
+use Rattle.command.specs.Meaning.{command_of, setting_of, fault_of, status_of, reading_of}
 use Rattle.command.specs.Paged.{paged}
 use Rattle.command.specs.Quantity.{carried, quantity_of}
 use Rattle.command.specs.Agreement.{row_of}
@@ -33,27 +33,7 @@ use Rattle.reads.specs.Reply.{reply_of}
 use Rattle.reads.specs.Replies.{check_of, plain_header, coefficients_header, Reply, reply_to, RepliesFollow}
 use Rattle.reads.proofs.Lengths.{data_length}
 use Rattle.reads.proofs.Requests.{sends}
-
--- the first m of n bytes FFh
-fewer : (m n : ℕ) → m ≤ n → take {A = ℕ} m (replicate n 255) ≡ replicate m 255
-fewer zero n h = refl
-fewer (suc m) zero h = absurd (omega arith)
-fewer (suc m) (suc n) h = ap (λ (t : List ℕ). 255 ∷ t) (fewer m n (le_of_suc-le-suc h))
-
--- what a reply of n bytes holds of the bytes s: their first n, or all of them and FFh
-module _ (s : List ℕ) (n : ℕ) where
-  reply-length : length (reply_of s n) ≡ n
-  reply-length = simp (length-take, length-append, length-replicate) (omega arith)
-
-  within : n ≤ length s → reply_of s n ≡ take n s
-  within h = take-append-le n s (replicate n 255) h
-
-  past : length s ≤ n → reply_of s n ≡ s ++ replicate (n - length s) 255
-  past h =
-      let e : n ≡ length s + (n - length s) = omega arith in
-      ap (λ (m : ℕ). take m (s ++ replicate n 255)) e
-      ∙ take-append-add s (replicate n 255) (n - length s)
-      ∙ ap (λ (t : List ℕ). s ++ t) (fewer (n - length s) n (omega arith))
+use Rattle.reads.proofs.Sent.{reply-length, within, past}
 
 -- bytes with the check c behind them
 module _ (bytes : List ℕ) (c n : ℕ) where
@@ -88,7 +68,7 @@ some_sent false false false h = h
 
 -- the table's number of data bytes, by computation at each code
 pub data_due : (u : Unpaged) (p : Page) (c : ℕ) → c < 256 → (lookup c).read ≡ true → length (read_data u p (command_of c)) ≡ (lookup c).length
-unfolding lookup entry_of table row_of command_of setting_of fault_of reading_of
+unfolding lookup entry_of table row_of command_of setting_of fault_of status_of reading_of
 data_due u p c h r =
     (data_length u p (command_of c)).0
     (sym (agree-test (λ c. (lookup c).read) (λ c. (entry_of (row_of 0 (command_of c))).read) 256 tt c h) ∙ r)
@@ -154,9 +134,9 @@ replies_follow = record {
   of_code = λ u p c n small r.
       replies u p (plain_header c) n (lookup c).length (read_data u p (command_of c)) (every_page u && paged c) (data_due u p c small r) (rw r) (rw r);
   of_limit = λ u p i direction n few.
-      coefficients_reply u p (limit_of i).limit_code direction (limit_of i).quantity n (ap carried (causes-agree.0 i few).limit);
+      coefficients_reply u p (limit_of i).limit_code direction (limit_of i).quantity n (let m = (causes-agree.0 i few).limit in ap carried m.means ∙ ap (λ (k : ℕ). (limit_of k).quantity) m.numbered);
   of_measured = λ u p i direction n few.
-      coefficients_reply u p (get_or read_codes (limit_of i).quantity 0) direction (limit_of i).quantity n (ap carried (causes-agree.0 i few).reading);
+      coefficients_reply u p (get_or read_codes (limit_of i).quantity 0) direction (limit_of i).quantity n (let m = (causes-agree.0 i few).reading in ap carried m.means ∙ m.numbered);
   no_data = λ u p header n e.
       let a = read_answer u p header n in
       rw (none-sent (eqb a 0) (eqb a 10) (eqb a 11) e) (take_all n (replicate n 255) (rw (length-replicate) (le_refl n)));

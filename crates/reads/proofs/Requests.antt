@@ -1,40 +1,42 @@
 -- What is known of a read by its request: which fields of the page it looks at, and which headers a read that sends data has.
 -- Assumes nothing.
-use Prim.Native.Nat.{ℕ, suc, ◌+◌, ◌≤◌}
-use mathlib.Core.Path.{◌≡◌, refl, sym, ap, ◌∙◌}
-use mathlib.Core.Bool.{Bool, true, false, cond, ◌&&◌, false≢true}
+use Prim.Native.Nat.{ℕ}
+use mathlib.Core.Path.{◌≡◌, refl, ap, ◌∙◌}
+use mathlib.Core.Bool.{true, false, false≢true}
 use mathlib.Core.List.{List, [], ◌∷◌}
 use mathlib.Core.Logic.{◌⊎◌, inl, inr, ⊎_elim}
 use native.Mathlib.Omega.{arith}
 use lib.ListN.{length, get_or}
-use lib.Dec.{eqb, ltb}
+use lib.Dec.{eqb}
 use borrow.Author.Tests.{eqb-true}
+use Rattle.std.specs.Prelude.{Result, Ok, Err}
 use Rattle.laws.proofs.Branches.{either, cond-apply, cond_same}
+use Rattle.answer.specs.declared.Refusal.{Refusal}
 use Rattle.command.specs.Table.{lookup}
 use Rattle.page.specs.declared.Page.{Page}
 use Rattle.unpaged.specs.declared.Unpaged.{Unpaged}
 use Rattle.unpaged.specs.Unpaged.{every_page}
 use Rattle.reads.specs.declared.request.Request.{Request}
-use Rattle.reads.specs.declared.request.Request.TheVariants.{Refused, Plain, Coefficients}
+use Rattle.reads.specs.declared.request.Request.TheVariants.{Plain, Coefficients}
 use Rattle.reads.specs.Request.{plain_of, coefficients_of, process_of, addressed_of, request_of}
 use Rattle.reads.specs.Coefficients.{has_coefficients}
 use Rattle.reads.specs.Answers.{data_answer, request_answer, read_answer, answers_data}
 use Rattle.reads.specs.Applies.{code}
 
 -- the answer goes by whether every page is selected, and looks at nothing of the page but its formats
-pub answer-same : (u v : Unpaged) (p q : Page) (r : Request) (n : ℕ) → every_page u ≡ every_page v → p.formats ≡ q.formats
+pub answer-same : (u v : Unpaged) (p q : Page) (r : Result Request Refusal) (n : ℕ) → every_page u ≡ every_page v → p.formats ≡ q.formats
     → request_answer u p r n ≡ request_answer v q r n
 unfolding request_answer has_coefficients
-answer-same u v p q (Refused a) n e f = refl
-answer-same u v p q (Plain code k) n e f = rw e
-answer-same u v p q (Coefficients code direction) n e f = rw (e, f)
+answer-same u v p q (Err refusal) n e f = refl
+answer-same u v p q (Ok (Plain code k)) n e f = rw e
+answer-same u v p q (Ok (Coefficients code direction)) n e f = rw (e, f)
 
 -- whether data are sent does not depend on the number of bytes clocked
-pub data_any : (u : Unpaged) (p : Page) (r : Request) (n m : ℕ) → answers_data (request_answer u p r n) ≡ answers_data (request_answer u p r m)
+pub data_any : (u : Unpaged) (p : Page) (r : Result Request Refusal) (n m : ℕ) → answers_data (request_answer u p r n) ≡ answers_data (request_answer u p r m)
 unfolding request_answer data_answer answers_data
-data_any u p (Refused a) n m = refl
-data_any u p (Plain code k) n m = simp (cond-apply answers_data, cond_same)
-data_any u p (Coefficients code direction) n m = simp (cond-apply answers_data, cond_same)
+data_any u p (Err refusal) n m = refl
+data_any u p (Ok (Plain code k)) n m = simp (cond-apply answers_data, cond_same)
+data_any u p (Ok (Coefficients code direction)) n m = simp (cond-apply answers_data, cond_same)
 
 -- a header of three bytes, spelled
 three : (h : List ℕ) → length h ≡ 3 → h ≡ get_or h 0 0 ∷ get_or h 1 0 ∷ get_or h 2 0 ∷ []
@@ -59,12 +61,12 @@ six (a ∷ b ∷ c ∷ x ∷ y ∷ z ∷ w ∷ h) e = absurd (omega arith)
 pub record SendsPlain (header : List ℕ) : Type 0 where
   pub spelled : header ≡ 0xC0 ∷ code header ∷ 0xC1 ∷ []
   pub readable : (lookup (code header)).read ≡ true
-  pub asks : request_of header ≡ Plain (code header) (lookup (code header)).length
+  pub asks : request_of header ≡ Ok (Plain (code header) (lookup (code header)).length)
 
 -- or of coefficients
 pub record SendsCoefficients (header : List ℕ) : Type 0 where
   pub spelled : header ≡ 0xC0 ∷ 0x30 ∷ 2 ∷ get_or header 3 0 ∷ get_or header 4 0 ∷ 0xC1 ∷ []
-  pub asks : request_of header ≡ Coefficients (get_or header 3 0) (get_or header 4 0)
+  pub asks : request_of header ≡ Ok (Coefficients (get_or header 3 0) (get_or header 4 0))
 
 module _ (u : Unpaged) (p : Page) (header : List ℕ) (n : ℕ) (y : answers_data (read_answer u p header n) ≡ true) (some : eqb (length header) 0 ≡ false) (ours : eqb (get_or header 0 0) 0xC0 ≡ true) where
   of_three : eqb (length header) 3 ≡ true → SendsPlain header

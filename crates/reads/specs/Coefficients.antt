@@ -1,8 +1,7 @@
 -- What COEFFICIENTS tells of a code on a page, and what it sends (PMBus Part II, 7.2.3 and 14.1).
 -- Assumes nothing.
 use Rattle.std.specs.Prelude.{ℕ, ◌%◌, ◌/◌, Bool, false, cond, ◌&&◌, List, [], ◌∷◌, eqb}
-use Rattle.command.specs.declared.table.Entry.{Entry}
-use Rattle.command.specs.Table.{lookup}
+use Rattle.command.specs.Table.{Entry, lookup}
 use Rattle.command.specs.Quantity.{quantity_of}
 use Rattle.value.specs.declared.format.Format.{Format}
 use Rattle.page.specs.declared.Page.{Page}

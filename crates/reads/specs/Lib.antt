@@ -6,3 +6,4 @@ pub mod Data
 pub mod Applies
 pub mod Replies
 pub mod Gives
+pub mod Stream

@@ -1,72 +1,76 @@
-// The answer of a read, from the unpaged part, the page shown, what is asked for and the number of bytes clocked.
-ghost use Rattle.std.specs.Prelude.{◌≡◌, ◌&&◌, ◌||◌, not};
-ghost use Rattle.command.specs.Paged.{paged};
-ghost use Rattle.unpaged.specs.Unpaged.{every_page};
-ghost use Rattle.reads.specs.Coefficients.{has_coefficients};
+// The answer of a read, from the unpaged part, the page shown, what is asked for and the number of bytes clocked. They stay
+// apart, as docs/PROMISES.md has `read_answer` (2.1 and on).
+ghost use Rattle.std.specs.Prelude.{◌≡◌};
+ghost use Rattle.answer.specs.Answer.{answer_of};
 ghost use Rattle.reads.specs.Answers.{data_answer, request_answer, read_answer, answers_data};
 
+use super::coefficients::has_coefficients;
+use super::request;
 use super::request::Request;
-use super::{coefficients, request};
+use answer::{DONE, Refusal};
+use command::paged::is_paged;
 use page::Page;
-use unpaged::Unpaged;
+use unpaged::{EVERY_PAGE, Unpaged};
+
+// The numbers of the refusals that come with data.
+const TOO_SHORT: u8 = Refusal::ReadTooShort as u8;
+
+const TOO_LONG: u8 = Refusal::ReadTooLong as u8;
+
+// The data bytes of COEFFICIENTS.
+const COEFFICIENT_BYTES: u8 = 6;
 
 // A request with `due` data bytes, where n are clocked.
-fn data_answer(refused: bool, due: u8, n: usize) -> u8
-    ensures { result ≡ data_answer refused due n }
+#[tactic(auto, unfolding(crate::specs::Answers::data_answer))]
+fn check_length(refused: bool, due: u8, n: usize) -> Result<(), Refusal>
+    ensures { answer_of result ≡ data_answer refused due n }
 {
+    let due = due as usize;
     if refused {
-        return answer::INVALID_DATA;
+        return Err(Refusal::InvalidData);
     }
-    let length = due as usize;
-    if n < length {
-        return answer::READ_TOO_SHORT;
+    if n < due {
+        return Err(Refusal::ReadTooShort);
     }
-    if length + 1 < n {
-        return answer::READ_TOO_LONG;
+    if n > due + 1 {
+        return Err(Refusal::ReadTooLong);
     }
-    answer::DONE
+    Ok(())
 }
 
-// A code that is read. A page cannot be read where every page is selected.
-fn plain_answer(u: Unpaged, code: u8, due: u8, n: usize) -> u8
-    ensures { result ≡ data_answer (every_page u && paged code) due n }
+// The answer to a request, on the page shown, with n bytes clocked. Where every page is selected, no page is read, and there are no
+// coefficients.
+#[tactic(auto, unfolding(crate::specs::Answers::request_answer))]
+pub fn request_answer(
+    u: Unpaged,
+    p: Page,
+    request: Result<Request, Refusal>,
+    n: usize,
+) -> Result<(), Refusal>
+    ensures { answer_of result ≡ request_answer u p request n }
 {
-    let everywhere = (u.page == 0xFF) & command::paged::is_paged(code);
-    data_answer(everywhere, due, n)
-}
-
-// The coefficients of a code on the page shown. There are none where every page is selected.
-fn coefficients_answer(u: Unpaged, p: Page, code: u8, direction: u8, n: usize) -> u8
-    ensures { result ≡ data_answer (every_page u || not (has_coefficients p code direction)) 6 n }
-{
-    let none = (u.page == 0xFF) | !coefficients::has_coefficients(p, code, direction);
-    data_answer(none, 6, n)
-}
-
-// The answer to a request, on the page shown, with n bytes clocked.
-pub fn request_answer(u: Unpaged, p: Page, request: Request, n: usize) -> u8
-    ensures { result ≡ request_answer u p request n }
-{
-    match request {
-        Request::Refused(answer) => answer,
-        Request::Plain(code, due) => plain_answer(u, code, due, n),
-        Request::Coefficients(code, direction) => coefficients_answer(u, p, code, direction, n),
+    let everywhere = u.page == EVERY_PAGE;
+    match request? {
+        Request::Plain(code, due) => check_length(everywhere && is_paged(code), due, n),
+        Request::Coefficients(code, direction) => {
+            let none = everywhere || !has_coefficients(p, code, direction);
+            check_length(none, COEFFICIENT_BYTES, n)
+        }
     }
 }
 
 // The answer of a read with this header.
-pub fn read_answer(u: Unpaged, p: Page, header: &[u8], n: usize) -> u8
-    ensures { result ≡ read_answer u p header.now n }
+#[tactic(auto, unfolding(crate::specs::Answers::read_answer))]
+pub fn read_answer(u: Unpaged, p: Page, header: &[u8], n: usize) -> Result<(), Refusal>
+    ensures { answer_of result ≡ read_answer u p header.now n }
 {
-    let request = request::request_of(header);
-    request_answer(u, p, request, n)
+    request_answer(u, p, request::request_of(header), n)
 }
 
-// Whether an answer comes with data: done, too short and too long do.
+// Whether the answer of this number comes with data: done, too short and too long do.
+#[tactic(auto, unfolding(crate::specs::Answers::answers_data))]
 pub fn answers_data(answer: u8) -> bool
     ensures { result ≡ answers_data answer }
 {
-    (answer == answer::DONE)
-        | (answer == answer::READ_TOO_SHORT)
-        | (answer == answer::READ_TOO_LONG)
+    matches!(answer, DONE | TOO_SHORT | TOO_LONG)
 }

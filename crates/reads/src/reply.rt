@@ -1,51 +1,89 @@
-// What stands in a reply buffer: the bytes the device sends, and FFh once they are over.
-ghost use Rattle.std.specs.Prelude.{◌≡◌, length};
-ghost use Rattle.reads.specs.Reply.{byte_of, reply_of, stream, stream_of, alert_stream};
+// The bytes that the device sends, and what stands in a reply buffer: those bytes, and FFh once they are over.
+ghost use Rattle.std.specs.Prelude.{◌≡◌, ◌+◌, ◌<◌, ◌≤◌, [], ◌∷◌, ◌++◌, length};
+ghost use Rattle.answer.specs.Answer.{answer_of};
+ghost use Rattle.reads.specs.Reply.{reply_of, alert_stream};
 
-// The bytes to send: the first `length` of `bytes`.
+use answer::Refusal;
+use std::marker::Model;
+use writes::bytes::WRITE_ADDRESS;
+
+// What the host reads once nobody sends.
+const IDLE: u8 = 0xFF;
+
+// The bytes to send, eight at most. Contracts see the list of them; past them the buffer holds 0, so that the list gives the fields back.
 #[derive(Clone, Copy)]
 pub struct Stream {
-    pub bytes: [u8; 8],
-    pub length: u8,
+    bytes: [u8; 8],
+    length: u8,
 }
 
-// The byte at a place, FFh past the end.
-fn byte_of(s: Stream, i: usize) -> u8
-    ensures { result ≡ byte_of s i }
-{
-    let n = s.length as usize;
-    if n <= i {
-        return 255;
+impl Model for Stream {
+    ghost use Rattle.std.specs.Prelude.{ℕ, List};
+
+    ghost Value = { List ℕ };
+
+    ghost use Rattle.reads.specs.Stream.{IsStream, stream, stream_of};
+
+    ghost view = { stream_of };
+
+    ghost invariant = { IsStream };
+
+    ghost inverse = { stream };
+
+    ghost inverse_ok = { λ s h. h.made };
+}
+
+impl Stream {
+    pub(crate) fn new(bytes: &[u8]) -> Self
+        requires { length bytes.now ≤ 8 }
+        ensures { result ≡ bytes.now }
+    {
+        // No `copy_from_slice`, here and below: it calls memmove, and the archives call nothing but memcpy and memset
+        // (include/tongsorrel.h).
+        let mut buffer = [0; 8];
+        for (i, &byte) in bytes.iter().enumerate() {
+            buffer[i] = byte;
+        }
+        Stream {
+            bytes: buffer,
+            length: bytes.len() as u8,
+        }
     }
-    if 8 <= i {
-        return 255;
+
+    pub fn as_slice(&self) -> &[u8]
+        ensures { result.now ≡ self.now }
+    {
+        &self.bytes[..self.length as usize]
     }
-    s.bytes[i]
+
+    // One byte more, behind the others.
+    pub(crate) fn push(&mut self, byte: u8)
+        requires { length self.old < 8 }
+        ensures { self.new ≡ self.old ++ byte ∷ [] }
+    {
+        self.bytes[self.length as usize] = byte;
+        self.length += 1;
+    }
 }
 
 // Fills the whole buffer.
-pub fn send(reply: &mut [u8], s: Stream)
-    ensures { reply.new ≡ reply_of (stream_of s) (length reply.old) }
+pub fn send(reply: &mut [u8], bytes: &[u8])
+    ensures { reply.new ≡ reply_of bytes.now (length reply.old) }
 {
-    let mut i: usize = 0;
-    while i < reply.len() {
-        reply[i] = byte_of(s, i);
-        i += 1;
+    let n = bytes.len().min(reply.len());
+    for i in 0..n {
+        reply[i] = bytes[i];
     }
+    reply[n..].fill(IDLE);
 }
 
 // What an alert response sends with this answer: the device's address, or nothing.
-pub fn alert_stream(answer: u8) -> Stream
-    ensures { result ≡ stream (alert_stream answer) }
+#[tactic(auto, unfolding(crate::specs::Reply::alert_stream))]
+pub fn alert_stream(answer: Result<(), Refusal>) -> Stream
+    ensures { result ≡ alert_stream (answer_of answer) }
 {
-    if answer == answer::DONE {
-        return Stream {
-            bytes: [0xC0, 0, 0, 0, 0, 0, 0, 0],
-            length: 1,
-        };
-    }
-    Stream {
-        bytes: [0; 8],
-        length: 0,
+    match answer {
+        Ok(()) => Stream::new(&[WRITE_ADDRESS]),
+        Err(_) => Stream::new(&[]),
     }
 }

@@ -1,20 +1,13 @@
--- The machines of a page side by side: tests over the six, and each alone.
+-- The machines of a page side by side: each alone.
 -- Assumes nothing.
 use Prim.Native.Nat.{ℕ, zero, suc, ◌<◌}
 use mathlib.Core.Path.{◌≡◌, refl}
-use mathlib.Core.Bool.{Bool, false, ◌&&◌, ◌||◌, or-false, or_assoc, and-true, and_assoc}
+use mathlib.Core.Bool.{false}
 use mathlib.Core.List.{map}
 use lib.ListN.{get_or}
 use native.Mathlib.Nat.{le_of_suc-le-suc, not-suc-le-zero}
-use Rattle.laws.specs.Lists.{all_of, any_of}
 use Rattle.retry.specs.Byte.{byte_at_call, byte_at_tick}
 use Rattle.retry.specs.Machines.{numbers, all_at_call, all_at_tick, EachAlone}
-
-pub any-six : (p : ℕ → Bool) → any_of p numbers ≡ (p 0 || p 1 || p 2 || p 3 || p 4 || p 5)
-any-six p = simp (or-false, or_assoc)
-
-pub all_six : (p : ℕ → Bool) → all_of p numbers ≡ (p 0 && p 1 && p 2 && p 3 && p 4 && p 5)
-all_six p = simp (and-true, and_assoc)
 
 at_six : (f : ℕ → ℕ) (k : ℕ) → k < 6 → get_or (map f numbers) k 0 ≡ f k
 at_six f zero h = refl

@@ -5,6 +5,7 @@ pub mod Shapes
 pub mod Values
 pub mod Within
 pub mod Alone
+pub mod Turns
 pub mod Side
 pub mod Table
 pub mod Looks

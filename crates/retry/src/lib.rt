@@ -3,17 +3,49 @@
 #![tactic(auto)]
 
 ghost use Rattle.std.specs.Prelude.{◌≡◌, ◌<◌};
-ghost use Rattle.retry.specs.Response.{delay};
+ghost use Rattle.retry.specs.Response.{action, action_number, retries, delay};
 ghost use Rattle.retry.specs.Machine.{hold, look, started, less_one};
 ghost use Rattle.retry.specs.Byte.{byte_of, byte_at_call, byte_at_tick, byte_holds, byte_trips, trips_now, byte_valid};
 
 pub mod machines; // machines.rt: those of a page, side by side
 
+// A machine is a byte and no enum: a page keeps it, and pages are the C interface (`page::Page`, machines).
 pub const REST: u8 = 0;
 
 const TRIPPED: u8 = 64;
 
+// What a response byte says of its cause, in bits 7 and 6: the page goes on, or goes on for the delay, or is held off at once, or is off
+// for as long as the cause is present. The last works without a machine.
+#[derive(Clone, Copy, PartialEq, Eq)]
+pub enum Action {
+    GoOn,
+    WaitFirst,
+    HoldAtOnce,
+    OffWhilePresent,
+}
+
+impl From<u8> for Action {
+    ghost from_gives = { λ response result. action_number result ≡ action response };
+
+    fn from(response: u8) -> Action {
+        match response / 64 {
+            0 => Action::GoOn,
+            1 => Action::WaitFirst,
+            2 => Action::HoldAtOnce,
+            _ => Action::OffWhilePresent,
+        }
+    }
+}
+
+// The retries; 7 are for ever.
+fn retries(response: u8) -> u8
+    ensures { result ≡ retries response }
+{
+    response / 8 % 8
+}
+
 // The delay in ticks; 0 counts as 1.
+#[tactic(auto, unfolding(crate::specs::Response::delay))]
 fn delay(response: u8) -> u8
     ensures { result ≡ delay response }
 {
@@ -36,6 +68,7 @@ fn hold(response: u8, tries: u8) -> u8
 }
 
 // A look at the cause.
+#[tactic(auto, unfolding(crate::specs::Machine::look, crate::specs::Byte::byte_of))]
 fn look(response: u8, present: bool, tries: u8) -> u8
     requires { tries < 8 }
     ensures { result ≡ byte_of (look response present tries) }
@@ -47,19 +80,19 @@ fn look(response: u8, present: bool, tries: u8) -> u8
 }
 
 // A present cause starts a machine at rest.
+#[tactic(auto, unfolding(crate::specs::Machine::started, crate::specs::Byte::byte_of))]
 fn start(response: u8) -> u8
     ensures { result ≡ byte_of (started response) }
 {
-    if response / 64 == 2 {
-        return hold(response, response / 8 % 8);
+    match Action::from(response) {
+        Action::HoldAtOnce => hold(response, retries(response)),
+        Action::WaitFirst => delay(response),
+        Action::GoOn | Action::OffWhilePresent => REST,
     }
-    if response / 64 == 1 {
-        return delay(response);
-    }
-    REST
 }
 
 // The tries left when one was in vain; 7 are for ever.
+#[tactic(auto, unfolding(crate::specs::Machine::less_one))]
 fn less_one(tries: u8) -> u8
     requires { 0 < tries }
     ensures { result ≡ less_one tries }
@@ -97,7 +130,7 @@ pub fn at_tick(m: u8, response: u8, present: bool) -> u8
         return TRIPPED;
     }
     if m == 1 {
-        return look(response, present, response / 8 % 8);
+        return look(response, present, retries(response));
     }
     if m % 8 == 0 {
         return look(response, present, less_one(m / 8));
@@ -120,6 +153,7 @@ fn trips(m: u8) -> bool
 }
 
 // A step trips the page.
+#[tactic(auto, unfolding(crate::specs::Byte::trips_now))]
 pub fn trips_now(before: u8, after: u8) -> bool
     ensures { result ≡ trips_now before after }
 {

@@ -1,7 +1,7 @@
 -- The proved lines of the bench sheet (data sheet 14.1): what is worked out, and what it has to be.
 -- Values of Linear11 words are scaled by 65,536.
 -- Assumes nothing.
-use Rattle.std.specs.Prelude.{ℕ, ◌*◌, ◌≡◌, refl, Bool, true, false, cond, List, [], ◌∷◌, ◌++◌, map, ℤ, pos, neg_ℤ}
+use Rattle.std.specs.Prelude.{ℕ, ◌*◌, ◌≡◌, refl, true, false, cond, List, [], ◌∷◌, map, ℤ, pos, neg_ℤ}
 use Rattle.linear11.specs.Linear11.{signed_of, mantissa, exponent, scaled_of, word_order, order_of, linear_order}
 use Rattle.pec.specs.Pec.{pec, pec_from, pec_byte, pec_bit}
 use Rattle.account.specs.declared.Account.{Account}

@@ -11,7 +11,7 @@ use lib.Dec.{ltb, eqb}
 use borrow.Author.Tests.{ltb-true, ltb-false, lt-ltb, le-ltb}
 use Rattle.laws.proofs.Branches.{either}
 use Rattle.bus.specs.declared.Part.{Part}
-use Rattle.bus.specs.Part.{heard, part, part_valid, idle, started, taking, clocking}
+use Rattle.bus.specs.Part.{heard, part_valid, idle, started, taking, clocking}
 use Rattle.bus.specs.Automaton.{Event, start, byte, again, clock, stop, after_byte, after_again, after_clock, byted, restarted, clocked, part_after}
 use Rattle.bus.specs.Fields.{Fields}
 use Rattle.bus.proofs.Fields.{fields_of, valid_of}

@@ -9,18 +9,20 @@ use lib.ListN.{length, get_or, take, length-take}
 use lib.Seq.{take_all, get_or-take}
 use lib.Dec.{ltb, leb, eqb}
 use borrow.Author.Tests.{ltb-true, ltb-false, lt-ltb, le-ltb, leb-true, ne_eqb}
+use Rattle.std.specs.Prelude.{Result, Ok, Err}
+use Rattle.answer.specs.declared.Refusal.{Refusal}
+use Rattle.answer.specs.declared.Refusal.TheVariants.{WrongAddress, Malformed}
 use Rattle.laws.specs.Lists.{all_of}
 use Rattle.laws.proofs.Branches.{either, cond_same}
-use Rattle.command.specs.declared.table.Row.{Row}
 use Rattle.page.specs.declared.Page.{Page}
-use Rattle.command.specs.Table.{table, row_in, entry_of, lookup}
+use Rattle.command.specs.Table.{Row, table, row_in, entry_of, lookup}
 use Rattle.bus.specs.Ack.{orderly, room_behind, acked_first, acked_second}
 use Rattle.unpaged.specs.declared.Unpaged.{Unpaged}
 use Rattle.writes.specs.declared.asked.Write.{Write}
 use Rattle.writes.specs.Asked.{asked}
 use Rattle.writes.specs.Answers.{length_answer, code_answer, addressed_answer, write_answer}
 use Rattle.reads.specs.declared.request.Request.{Request}
-use Rattle.reads.specs.declared.request.Request.TheVariants.{Refused, Plain, Coefficients}
+use Rattle.reads.specs.declared.request.Request.TheVariants.{Plain, Coefficients}
 use Rattle.reads.specs.Request.{plain_of, coefficients_of, process_of, addressed_of, request_of, due_of}
 use Rattle.reads.specs.Answers.{data_answer, request_answer, read_answer, answers_data}
 use Rattle.reads.specs.Data.{read_stream}
@@ -69,11 +71,11 @@ too_long n u s k code w h =
     )
 
 -- a header of more than six bytes asks for nothing
-long-process : (h : List ℕ) (code : ℕ) → 6 < length h → process_of h code ≡ Refused 2
+long-process : (h : List ℕ) (code : ℕ) → 6 < length h → process_of h code ≡ Err Malformed
 unfolding process_of coefficients_of
-long-process h code l = rw (ne_eqb (length h) 6 (λ e. omega arith)) (cond_same (eqb code 0x30) (Refused 2))
+long-process h code l = rw (ne_eqb (length h) 6 (λ e. omega arith)) (cond_same (eqb code 0x30) (Err Malformed))
 
-long-refused : (h : List ℕ) → 6 < length h → request_of h ≡ cond (eqb (get_or h 0 0) 0xC0) (Refused 2) (Refused 1)
+long-refused : (h : List ℕ) → 6 < length h → request_of h ≡ cond (eqb (get_or h 0 0) 0xC0) (Err Malformed) (Err WrongAddress)
 unfolding request_of addressed_of
 long-refused h l =
     rw (ne_eqb (length h) 0 (λ e. omega arith), ne_eqb (length h) 3 (λ e. omega arith), long-process h (get_or h 1 0) l)
@@ -102,7 +104,7 @@ module _ (s : List ℕ) (long : 11 < length s) where
   long-request =
       let c = cut in
       long-refused (take 11 s) (omega arith)
-      ∙ ap (λ (x : ℕ). cond (eqb x 0xC0) (Refused 2) (Refused 1)) (at s 0 (omega arith)) ∙ sym (long-refused s (omega arith))
+      ∙ ap (λ (x : ℕ). cond (eqb x 0xC0) (Err Malformed) (Err WrongAddress)) (at s 0 (omega arith)) ∙ sym (long-refused s (omega arith))
 
   long-orderly : orderly (take 11 s) ≡ orderly s
   unfolding orderly
@@ -179,11 +181,11 @@ many_data refused k n few =
       lt-ltb (k + 1) 9 (omega arith),
     ))
 
-many : (u : Unpaged) (p : Page) (r : Request) (n : ℕ) → due_of r ≤ 7 → request_answer u p r (min n 9) ≡ request_answer u p r n
+many : (u : Unpaged) (p : Page) (r : Result Request Refusal) (n : ℕ) → due_of r ≤ 7 → request_answer u p r (min n 9) ≡ request_answer u p r n
 unfolding request_answer due_of
-many u p (Refused a) n few = refl
-many u p (Plain code k) n few = many_data _ k n few
-many u p (Coefficients code direction) n few = many_data _ 6 n (omega arith)
+many u p (Err refusal) n few = refl
+many u p (Ok (Plain code k)) n few = many_data _ k n few
+many u p (Ok (Coefficients code direction)) n few = many_data _ 6 n (omega arith)
 
 many_clocked : (u : Unpaged) (p : Page) (header : List ℕ) (n : ℕ) → read_answer u p header (min n 9) ≡ read_answer u p header n
 unfolding read_answer

@@ -2,7 +2,7 @@
 -- STOP, and beside them measurements, power samples and the other calls; no whole transactions. Every rule of a transaction is the whole
 -- device's `step`, asked twice: for the reply at the second address byte, and at STOP for answer and effect.
 -- Assumes nothing.
-use Rattle.std.specs.Prelude.{ℕ, Bool, true, cond, ◌&&◌, List, [], ◌∷◌, map, eqb}
+use Rattle.std.specs.Prelude.{ℕ, Bool, cond, ◌&&◌, Option, Some, List, [], ◌∷◌, map, eqb}
 use Rattle.bus.specs.declared.Part.{Part}
 use Rattle.bus.specs.Part.{writing, turning, reading, part_valid, heard, answering}
 use Rattle.bus.specs.Automaton.{Event, start, byte, again, clock, stop, byted, part_after, clock_byte}
@@ -17,7 +17,6 @@ use Rattle.device.specs.declared.Device.{Device}
 use Rattle.device.specs.declared.Done.{Done}
 use Rattle.device.specs.Device.{device_valid}
 use Rattle.device.specs.Step.{Call, write, read, clocked, done, Result, step}
-use Rattle.records.specs.declared.Seen.{Seen}
 
 pub record State : Type 0 where
   pub part : Part
@@ -31,8 +30,8 @@ unfoldable pub state_valid : State → Bool
 state_valid s = part_valid s.part && device_valid s.device
 
 -- what the rules of lent records are told of the pages of a valid state
-abbrev pub eight_valid : Seen
-eight_valid = record { number = 8; valid = true }
+abbrev pub eight_valid : Option ℕ
+eight_valid = Some 8
 
 -- ---- the five events
 

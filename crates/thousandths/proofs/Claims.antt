@@ -2,15 +2,14 @@
 -- Assumes nothing.
 use mathlib.Core.Path.{◌≡◌, refl}
 use mathlib.Core.Bool.{true}
-use Prim.Native.Nat.{ℕ, suc, ◌*◌, ◌≤◌}
+use Prim.Native.Nat.{ℕ, ◌*◌, ◌≤◌}
 use native.Mathlib.Omega.{arith}
-use lib.IntN.{ℤ, pos, negsuc, nat_abs, ◌+ℤ◌}
-use borrow.Author.Tests.{le-ltb}
+use lib.IntN.{ℤ, pos, nat_abs, ◌+ℤ◌}
+use Rattle.std.proofs.lemmas.Int.{ints}
 use Rattle.laws.proofs.Branches.{either}
 use Rattle.linear11.specs.Linear11.{signed_of, mantissa, exponent, scaled_of}
-use Rattle.signs.specs.Signs.{with_sign, is_within}
-use Rattle.thousandths.specs.Conversion.{unit, start, spot, rounded, row_best, nearer, best, target}
-use Rattle.thousandths.specs.Conversion.{lowest, highest, conversion_of, rounded_away, thousandths_of}
+use Rattle.signs.specs.Signs.{is_within}
+use Rattle.thousandths.specs.Conversion.{unit, start, spot, rounded, row_best, nearer, best, target, lowest, highest, conversion_of, thousandths_of}
 use Rattle.thousandths.specs.Nearest.{Nearest}
 use Rattle.thousandths.specs.Claims.{NearestFound, OnlyOne, OutsideRefused, Limits, Claims}
 use Rattle.thousandths.proofs.Raised.{Raised}
@@ -22,8 +21,7 @@ use Rattle.thousandths.proofs.Units.{vout-nearest_found, vout-only_one, vout-out
 
 -- a count moved up by at least its size
 moved : (z : ℤ) (k : ℕ) → nat_abs z ≤ k → Raised z k (nat_abs (z +ℤ pos k))
-moved (pos n) k h = refl
-moved (negsuc n) k h = rw (le-ltb k (suc n) h) (omega arith)
+moved z k h = omega (arith, ints)
 
 within-nearest : (count : ℤ) → is_within lowest highest count ≡ true → Nearest count (best (target count) 31).word
 unfolding target
@@ -46,7 +44,7 @@ outside_refused count h =
 
 limits : Limits
 unfolding
-    signed_of mantissa exponent scaled_of with_sign is_within unit start spot rounded row_best nearer best target conversion_of rounded_away
+    signed_of mantissa exponent scaled_of unit start spot rounded row_best nearer best target conversion_of
     thousandths_of
 limits = record { lowest = refl; highest = refl; below = refl; above = refl }
 

@@ -8,6 +8,7 @@ use lib.Dec.{ltb}
 use lib.Pow.{pow_mono}
 use lib.IntN.{pos, ◌*ℤ◌, *ℤ_comm}
 use borrow.Author.Tests.{ltb-true, ltb-false}
+use Rattle.std.proofs.lemmas.Int.{ints}
 use Rattle.laws.proofs.Branches.{either}
 use Rattle.linear11.specs.Linear11.{signed_of, mantissa, exponent, scaled_of}
 use Rattle.linear11.proofs.Range.{below-zero, shift_is}
@@ -20,15 +21,15 @@ module _ (w : ℕ) (h : w < 65536) where
   unfolding mantissa signed_of
   mantissa-raised =
       either (ltb (w % 2048) 1024)
-      (λ e. rw e (omega (arith, ltb-true (w % 2048) 1024 e)))
-      (λ e. rw (e, below-zero (w % 2048) 2048 (omega arith)) (omega (arith, ltb-false (w % 2048) 1024 e)))
+      (λ e. rw e (omega (arith, ints, ltb-true (w % 2048) 1024 e)))
+      (λ e. rw (e, below-zero (w % 2048) 2048 (omega arith)) (omega (arith, ints, ltb-false (w % 2048) 1024 e)))
 
   pub exponent-raised : Raised (exponent w) 16 (row w)
   unfolding exponent signed_of
   exponent-raised =
       either (ltb (w / 2048) 16)
-      (λ e. rw e (omega (arith, ltb-true (w / 2048) 16 e)))
-      (λ e. rw (e, below-zero (w / 2048) 32 (omega arith)) (omega (arith, ltb-false (w / 2048) 16 e)))
+      (λ e. rw e (omega (arith, ints, ltb-true (w / 2048) 16 e)))
+      (λ e. rw (e, below-zero (w / 2048) 32 (omega arith)) (omega (arith, ints, ltb-false (w / 2048) 16 e)))
 
   pub scaled_raised : Raised (scaled_of w) (1024 * 2 ^ row w) (offset w * 2 ^ row w)
   unfolding scaled_of

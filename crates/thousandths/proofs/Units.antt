@@ -2,18 +2,18 @@
 -- Assumes nothing.
 use mathlib.Core.Path.{◌≡◌, refl, sym, ap, ◌∙◌}
 use mathlib.Core.Bool.{true}
-use Prim.Native.Nat.{ℕ, zero, suc, ◌+◌, ◌*◌, ◌<◌, ◌≤◌}
+use Prim.Native.Nat.{ℕ, ◌<◌, ◌≤◌}
 use native.Mathlib.Omega.{arith}
 use lib.Dec.{ltb}
-use lib.IntN.{ℤ, pos, negsuc, neg_ℤ, nat_abs, ◌-ℤ◌}
+use lib.IntN.{ℤ, pos, negsuc, nat_abs}
 use borrow.Author.Tests.{ltb-true, ltb-false}
+use Rattle.std.proofs.lemmas.Int.{ints}
 use Rattle.laws.proofs.Branches.{either}
 use Rattle.signs.specs.Signs.{is_within}
-use Rattle.thousandths.specs.Conversion.{converted, distance}
+use Rattle.thousandths.specs.Conversion.{converted}
 use Rattle.thousandths.specs.Vout.{vout_highest, vout_word, vout_conversion_of, vout_thousandths_of}
 use Rattle.thousandths.specs.Nearest.{vout_gap, VoutNearest}
 use Rattle.thousandths.specs.Claims.{VoutNearestFound, VoutOnlyOne, VoutOutsideRefused, VoutComesBack}
-use Rattle.thousandths.proofs.Raised.{diff}
 use Rattle.thousandths.proofs.Ends.{vout-small, vout-not_below, vout-inside_within, vout-within_inside}
 
 made : (count : ℤ) → is_within (pos 0) vout_highest count ≡ true → vout_conversion_of count ≡ converted 0 (vout_word (nat_abs count))
@@ -22,19 +22,11 @@ made count e = rw e
 
 -- ---- the nearest word
 
-not_nearer : (n v : ℕ) → distance (8192 * n) (1000 * vout_word n) ≤ distance (8192 * n) (1000 * v)
-not_nearer n v =
-    either (ltb v (vout_word n))
-    (λ e. omega (arith, ltb-true v (vout_word n) e))
-    (λ e. either (ltb (vout_word n) v)
-    (λ k. omega (arith, ltb-true (vout_word n) v k))
-    (λ k. let same : v ≡ vout_word n = omega (arith, ltb-false v (vout_word n) e, ltb-false (vout_word n) v k) in rw same (omega arith)))
-
 nearest_is : (n : ℕ) → n ≤ 7999 → VoutNearest (pos n) (vout_word n)
 unfolding vout_gap
 nearest_is n l = record {
   a_word = omega arith;
-  first = λ v k. omega (arith, diff (1000 * vout_word n) (8192 * n), diff (1000 * v) (8192 * n), not_nearer n v);
+  first = λ v k. omega (arith, ints);
 }
 
 pub vout-nearest_found : VoutNearestFound
@@ -49,19 +41,15 @@ vout-nearest_found (negsuc n) i = absurd (vout-not_below n i)
 module _ (n w : ℕ) (a : VoutNearest (pos n) w) where
   near : vout_word n < 65536 → w ≡ vout_word n
   unfolding vout_gap
-  near h = omega (arith, a.first (vout_word n) h, diff (1000 * w) (8192 * n), diff (1000 * vout_word n) (8192 * n))
+  near h = omega (arith, ints, a.first (vout_word n) h)
 
   top : 65536 ≤ vout_word n → w ≡ 65535
   unfolding vout_gap
-  top h = omega (arith, a.a_word, a.first 65535 (omega arith), diff (1000 * w) (8192 * n), diff 65535000 (8192 * n))
-
-more : (a b : ℕ) → nat_abs (pos a -ℤ neg_ℤ (pos b)) ≡ a + b
-more a zero = omega arith
-more a (suc b) = refl
+  top h = omega (arith, ints, a.first 65535 (omega arith))
 
 bottom : (n w : ℕ) → VoutNearest (negsuc n) w → w ≡ 0
 unfolding vout_gap
-bottom n w a = omega (arith, a.first 0 (omega arith), more (1000 * w) (8192 * suc n), more 0 (8192 * suc n))
+bottom n w a = omega (arith, ints, a.first 0 (omega arith))
 
 pub vout-only_one : VoutOnlyOne
 unfolding VoutOnlyOne

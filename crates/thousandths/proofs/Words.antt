@@ -14,8 +14,7 @@ use Rattle.thousandths.specs.Conversion.{spot}
 use Rattle.thousandths.specs.Nearest.{gap_of, Before, Nearest}
 use Rattle.thousandths.proofs.Search.{row, offset, gap_at, Ahead, Best}
 use Rattle.thousandths.proofs.Places.{exponent-raised, scaled_raised, spot-raised}
-use Rattle.thousandths.proofs.Raised.{Raised, raised-times, raised-gap, raised-le, raised_lt, raised-same}
-use Rattle.thousandths.proofs.Raised.{raised-le-back, raised-lt_back, raised-same-back}
+use Rattle.thousandths.proofs.Raised.{Raised, raised-times, raised-gap, raised-le, raised_lt, raised-same, raised-le-back, raised-lt_back, raised-same-back}
 
 -- ---- the best of all rows, for a count moved up
 

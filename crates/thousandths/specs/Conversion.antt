@@ -3,8 +3,10 @@
 -- A row is the 2048 words of one exponent: row 0 has exponent -16, row 31 has 15. A value, of a word or of a count, is taken times
 -- 65,536,000, which makes it whole, and moved up so that the lowest, 7C00h, lies at 0. t is the place of the count.
 -- Assumes nothing.
-use Rattle.std.specs.Prelude.{ℕ, zero, suc, ◌+◌, ◌*◌, ◌-◌, ◌/◌, ◌%◌, ◌^◌, min, cond, ltb, ℤ, pos, neg_ℤ, nat_abs, ◌+ℤ◌, ◌*ℤ◌}
+use Rattle.std.specs.Prelude.{ℕ, zero, suc, ◌+◌, ◌*◌, ◌-◌, ◌/◌, ◌%◌, ◌^◌, min, cond, ltb, ℤ, pos, neg_ℤ, nat_abs, ◌+ℤ◌, ◌*ℤ◌, Result, Ok, Err}
 use Rattle.std.specs.Int.Signed.{lt_z}
+use Rattle.answer.specs.declared.Refusal.{Refusal}
+use Rattle.answer.specs.Answer.{number_of}
 use Rattle.linear11.specs.Linear11.{scaled_of}
 use Rattle.signs.specs.Signs.{with_sign, is_within}
 use Rattle.thousandths.specs.declared.Converted.{Converted}
@@ -12,6 +14,11 @@ use Rattle.thousandths.specs.declared.rows.Found.{Found}
 
 abbrev pub converted : ℕ → ℕ → Converted
 converted answer word = record { answer = answer; word = word }
+
+-- what C sees of a word or of why there is none
+abbrev pub converted_of : Result ℕ Refusal → Converted
+converted_of (Ok word) = converted 0 word
+converted_of (Err refusal) = converted (number_of refusal) 0
 
 -- the step between neighbours of row e
 unfoldable pub unit : ℕ → ℕ
@@ -73,7 +80,7 @@ abbrev pub half_up : ℕ → ℕ
 half_up n = (n + 32768) / 65536
 
 -- the same of a signed number, by its size: a half away from zero
-unfoldable pub rounded_away : ℤ → ℤ
+abbrev pub rounded_away : ℤ → ℤ
 rounded_away z = with_sign (lt_z z (pos 0)) (half_up (nat_abs z))
 
 -- the thousandths of a word (data sheet 19.4)

@@ -2,22 +2,8 @@
 -- Assumes nothing.
 use Rattle.std.specs.Prelude.{◌≡◌, refl, List, [], ◌∷◌, map, ℤ, pos, neg_ℤ}
 use Rattle.linear11.specs.Linear11.{signed_of, mantissa, exponent, scaled_of}
-use Rattle.signs.specs.Signs.{with_sign, is_within}
 use Rattle.thousandths.specs.declared.Converted.{Converted}
-use Rattle.thousandths.specs.Conversion.{
-  unit,
-  start,
-  spot,
-  rounded,
-  row_best,
-  nearer,
-  best,
-  target,
-  converted,
-  conversion_of,
-  rounded_away,
-  thousandths_of,
-}
+use Rattle.thousandths.specs.Conversion.{unit, start, spot, rounded, row_best, nearer, best, target, converted, conversion_of, thousandths_of}
 use Rattle.thousandths.specs.Vout.{vout_conversion_of, vout_thousandths_of}
 
 abbrev pub words : List (Converted × Converted)
@@ -50,9 +36,9 @@ thousandths =
 
 pub words-agree : map (λ row. row.0) words ≡ map (λ row. row.1) words
 unfolding
-    signed_of mantissa exponent scaled_of with_sign is_within unit start spot rounded row_best nearer best target conversion_of vout_conversion_of
+    signed_of mantissa exponent scaled_of unit start spot rounded row_best nearer best target conversion_of vout_conversion_of
 words-agree = refl
 
 pub thousandths-agree : map (λ row. row.0) thousandths ≡ map (λ row. row.1) thousandths
-unfolding signed_of mantissa exponent scaled_of with_sign rounded_away thousandths_of vout_thousandths_of
+unfolding signed_of mantissa exponent scaled_of thousandths_of vout_thousandths_of
 thousandths-agree = refl

@@ -1,4 +1,5 @@
 pub mod Conversion
+pub mod Place
 pub mod Vout
 pub mod Nearest
 pub mod Claims

@@ -5,7 +5,8 @@ ghost use Rattle.linear11.specs.Linear11.{scaled_of, linear_order};
 ghost use Rattle.value.specs.Format.{comparison};
 ghost use Rattle.tongsorrel.specs.Numbers.{order_number, compared};
 
-use linear11::Order;
+use answer::DONE;
+use std::cmp::Ordering;
 use value::format::Format;
 
 // The packet check (PEC) of a whole transaction, address bytes included.
@@ -32,14 +33,15 @@ pub extern "C" fn tongsorrel_linear11_scaled(word: u16) -> i64
     linear11::scaled(word)
 }
 
-// An order as a number: C has no enum of ours.
-fn order_number(order: Order) -> u8
+// An order as a number: C has no enum of ours, and std numbers its own from -1.
+#[tactic(auto, unfolding(crate::specs::Numbers::order_number))]
+fn order_number(order: Ordering) -> u8
     ensures { result ≡ order_number order }
 {
     match order {
-        Order::Below => 0,
-        Order::Equal => 1,
-        Order::Above => 2,
+        Ordering::Less => 0,
+        Ordering::Equal => 1,
+        Ordering::Greater => 2,
     }
 }
 
@@ -48,11 +50,10 @@ fn order_number(order: Order) -> u8
 pub extern "C" fn tongsorrel_linear11_compare(a: u16, b: u16) -> u8
     ensures { result ≡ order_number (linear_order a b) }
 {
-    let order = linear11::compare_linear11(a, b);
-    order_number(order)
+    order_number(linear11::compare_linear11(a, b))
 }
 
-// An answer, and how one value stands to another as a number.
+// An answer, and how one value stands to another as a number: C has no Result.
 #[repr(C)]
 #[derive(Clone, Copy)]
 pub struct Compared {
@@ -65,10 +66,14 @@ pub struct Compared {
 pub extern "C" fn tongsorrel_compare(f: Format, a: u16, g: Format, b: u16) -> Compared
     ensures { result ≡ compared (comparison f a g b) }
 {
-    let c = value::compare(f, a, g, b);
-    let order = c.order;
-    Compared {
-        answer: c.answer,
-        order: order_number(order),
+    match value::compare(f, a, g, b) {
+        Ok(order) => Compared {
+            answer: DONE,
+            order: order_number(order),
+        },
+        Err(refusal) => Compared {
+            answer: refusal.into(),
+            order: order_number(Ordering::Equal),
+        },
     }
 }

@@ -14,7 +14,7 @@ use Rattle.totalizer.specs.declared.Totalizer.{Totalizer}
 use Rattle.totalizer.specs.declared.Taken.{Taken}
 use Rattle.totalizer.specs.Totalizer.{totalizer, answered, energy_answer, next_energy, next_samples, added, booked, totalize}
 use Rattle.totalizer.specs.Applies.{last_in_range, room_for, take_lines, TakesApply}
-use Rattle.totalizer.proofs.Outcomes.{refused-closed, start, later}
+use Rattle.totalizer.proofs.Outcomes.{not_full, refused-closed, start, later}
 
 -- ---- a reply that passed
 
@@ -120,13 +120,6 @@ booked-leaves t a =
     (λ o y r. done-leaves t (totalizer true t.closed a (next_energy t a) (next_samples t a)))
     (λ o y r. full_leaves t (shut t) refl)
 
-not_full : (a b c d : Bool) → ◌≡◌ {A = ℕ} (cond a 20 (cond b 21 (cond c 22 (cond d 23 0)))) 24 → ⊥
-not_full true b c d e = let z : ◌≡◌ {A = ℕ} 20 24 = e in omega arith
-not_full false true c d e = let z : ◌≡◌ {A = ℕ} 21 24 = e in omega arith
-not_full false false true d e = let z : ◌≡◌ {A = ℕ} 22 24 = e in omega arith
-not_full false false false true e = let z : ◌≡◌ {A = ℕ} 23 24 = e in omega arith
-not_full false false false false e = let z : ◌≡◌ {A = ℕ} 0 24 = e in omega arith
-
 module _ (code : ℕ) (t : Totalizer) (s : List ℕ) where
   invalid : account_valid t.last ≡ false → totalize code t s ≡ answered 15 t
   unfolding totalize
@@ -146,9 +139,7 @@ module _ (code : ℕ) (t : Totalizer) (s : List ℕ) where
       (λ v. either (eqb (energy_answer code s) 0)
       (λ e. subst (Leaves t) (sym (passed v e)) (booked-leaves t (account_of s)))
       (λ e. subst (Leaves t) (sym (failed v e))
-      (refused-leaves t (energy_answer code s)
-      (λ z. not_full (not (eqb (length s) 8)) (not (eqb (pec (0xC0 ∷ code ∷ 0xC1 ∷ take 7 s)) (get_or s 7 0))) (not (eqb (get_or s 0 0) 6))
-      (ltb 0x7FFF (get_or s 1 0 + get_or s 2 0 * 256)) (sym (lines code t s) ∙ z)))))
+      (refused-leaves t (energy_answer code s) (eqb-false (energy_answer code s) 24 (not_full code s)))))
       (λ v. subst (Leaves t) (sym (invalid v)) (refused-leaves t 15 (λ z. omega arith)))
 
 -- ---- what an accepted reply leaves

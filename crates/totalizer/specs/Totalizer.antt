@@ -1,6 +1,8 @@
 -- The host's totalizer (data sheet 10.1 to 10.7): what one reply does to it.
 -- Assumes nothing.
-use Rattle.std.specs.Prelude.{ℕ, ◌+◌, ◌-◌, ◌%◌, ◌^◌, Bool, true, false, cond, not, ◌&&◌, List, ◌==◌, nat_lt}
+use Rattle.std.specs.Prelude.{ℕ, ◌+◌, ◌-◌, ◌%◌, ◌^◌, Bool, true, false, cond, not, ◌&&◌, ◌||◌, List, ◌==◌, nat_lt, Result, Ok, Err}
+use Rattle.answer.specs.declared.Refusal.{Refusal}
+use Rattle.answer.specs.Answer.{number_of}
 use Rattle.account.specs.declared.Account.{Account}
 use Rattle.account.specs.Account.{account, account_valid, energy_reading, account_of}
 use Rattle.replies.specs.Replies.{reply_answer}
@@ -12,6 +14,12 @@ totalizer s c a e n = record { started = s; closed = c; last = a; energy = e; sa
 
 abbrev pub answered : ℕ → Totalizer → Taken
 answered n t = record { totalizer = t; answer = n }
+
+-- the totalizer and the answer number, where a reply to t gives the next totalizer or is refused: 24 sets the closed mark
+abbrev pub taken_of : Totalizer → Result Totalizer Refusal → Taken
+taken_of t (Ok next) = answered 0 next
+taken_of t (Err refusal) =
+    answered (number_of refusal) (totalizer t.started (t.closed || number_of refusal == 24) t.last t.energy t.samples)
 
 -- nothing accepted yet, all numbers 0 (data sheet 10.1)
 unfoldable pub fresh_totalizer : Totalizer

@@ -17,7 +17,7 @@ use Rattle.pec.specs.Pec.{pec, pec_from, pec_byte, pec_bit}
 use Rattle.pec.proofs.Xor.{xor_undone}
 use Rattle.pec.proofs.Laws.{pec-lt, pec-append}
 use Rattle.account.specs.declared.Account.{Account}
-use Rattle.account.specs.declared.Sampled.{Sampled}
+use Rattle.account.specs.Account.{Sampled}
 use Rattle.account.specs.Account.{account_valid, added, energy_reading, ein_bytes}
 use Rattle.account.proofs.Laws.{in_range, taken, added-count, added-energy, added-valid}
 use Rattle.command.specs.Table.{table, entry_of, lookup}

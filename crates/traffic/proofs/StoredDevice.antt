@@ -8,12 +8,11 @@ use native.Mathlib.Omega.{arith}
 use lib.ListN.{length, get_or}
 use Rattle.page.specs.declared.Page.{Page}
 use Rattle.page.specs.Page.{no_page}
-use Rattle.unpaged.specs.declared.Unpaged.{Unpaged}
 use Rattle.device.specs.declared.Device.{Device}
 use Rattle.device.specs.Device.{device, page_of}
 use Rattle.stream.specs.Stream.{state}
 use Rattle.layout.specs.Form.{get_all}
-use Rattle.layout.specs.Layout.{part_form, account_form, unpaged_form, page_form, pages_in, pages_from, size, unpaged_at}
+use Rattle.layout.specs.Layout.{part_form, unpaged_form, page_form, pages_in, pages_from, size, unpaged_at}
 use Rattle.layout.specs.State.{decode, part_of, device_of}
 use Rattle.layout.proofs.Laws.{unpaged-back, unpaged-fits, page-back}
 use Rattle.layout.proofs.Places.{Local, all_local, part-local, page-local, read_back, below, above, store_length, get_at}

@@ -1,26 +1,61 @@
--- What a refusal leaves, bit by bit: by computation at each answer.
+-- What a refusal leaves, bit by bit: by computation at each answer; and what sets no bit leaves everything.
 -- Assumes nothing.
-use Prim.Native.Nat.{ℕ, ◌-◌, ◌/◌, ◌%◌, ◌^◌, ◌≤◌, ◌<◌}
+use Prim.Native.Nat.{ℕ, ◌+◌, ◌*◌, ◌-◌, ◌/◌, ◌%◌, ◌^◌, ◌≤◌, ◌<◌, max}
 use mathlib.Core.Path.{◌≡◌, refl, sym, ap, ◌∙◌}
-use mathlib.Core.Bool.{Bool, true, false, not, ◌&&◌, ◌||◌, or-false, false≢true}
+use mathlib.Core.Bool.{Bool, true, false, cond, not, ◌&&◌, ◌||◌, or-false, false≢true}
 use mathlib.Core.List.{List, [], ◌∷◌}
 use native.Mathlib.Nat.{pow-le-pow_right, div-eq_of_lt}
 use native.Mathlib.Omega.{arith}
-use lib.Bits.{bit_or}
+use lib.Arith.{bin_ind}
+use lib.Bits.{bit_or, or_step, or_zero_r}
 use lib.Dec.{eqb, ltb, ltb→lt}
 use lib.ListN.{get_or}
 use Rattle.laws.specs.Bits.{bit}
-use borrow.Author.Tests.{ltb-true, ltb-false}
+use borrow.Author.Tests.{eqb-true, ltb-true, ltb-false}
 use Rattle.laws.proofs.Bits.{or_bit, NewBit}
 use Rattle.laws.proofs.Branches.{either}
 use Rattle.laws.proofs.Every.{agree, agree-test, each}
 use Rattle.laws.proofs.Lists.{any_at, any_found}
 use Rattle.page.specs.Status.{gains}
-use Rattle.page.proofs.Bits.{gains-found, gains-made}
+use Rattle.page.proofs.Bits.{gains-found, gains-made, gains-none}
+use Rattle.answer.specs.Answer.{unknown}
 use Rattle.unpaged.specs.declared.Unpaged.{Unpaged}
 use Rattle.unpaged.specs.Unpaged.{cml_bits, refused}
 use Rattle.unpaged.specs.Applies.{is_in}
 use Rattle.unpaged.specs.Refusals.{turns, any_turns, RefusalsLeave}
+
+-- bits added a second time change nothing,
+or_again : (x w : ℕ) → bit_or x (bit_or x w) ≡ bit_or x w
+or_again =
+    bin_ind (λ (x : ℕ). (w : ℕ) → bit_or x (bit_or x w) ≡ bit_or x w) (λ w. refl)
+    (λ x ih w.
+    let s : bit_or x w ≡ bit_or (x / 2) (w / 2) * 2 + max (x % 2) (w % 2) = or_step x w in
+    let half : bit_or x w / 2 ≡ bit_or (x / 2) (w / 2) = omega arith in
+    let low : bit_or x w % 2 ≡ max (x % 2) (w % 2) = omega arith in
+    or_step x (bit_or x w) ∙ rw (half, low, ih (w / 2)) (omega arith))
+
+-- so a byte gains a bit by adding some exactly where it changes
+pub gains-or : (x w : ℕ) → gains x (bit_or x w) ≡ not (eqb (bit_or x w) x)
+gains-or x w = ap (λ (y : ℕ). not (eqb y x)) (or_again x w)
+
+-- a number that no refusal has is not that of one,
+other : (n k x y : ℕ) → unknown n ≡ true → unknown k ≡ false → cond (eqb n k) x y ≡ y
+other n k x y h f =
+    either (eqb n k) (λ e. absurd (false≢true (sym f ∙ ap unknown (sym (eqb-true n k e)) ∙ h))) (λ e. rw e refl)
+
+pub no_bits : (n : ℕ) → unknown n ≡ true → cml_bits n ≡ 0
+unfolding cml_bits
+no_bits n h =
+    other n 3 _ _ h refl ∙ other n 5 _ _ h refl ∙ other n 6 _ _ h refl ∙ other n 7 _ _ h refl ∙ other n 8 _ _ h refl ∙ other n 9 _ _ h refl
+    ∙ other n 10 _ _ h refl ∙ other n 11 _ _ h refl
+
+-- and leaves everything
+pub refused-unknown : (u : Unpaged) (n : ℕ) → unknown n ≡ true → refused u n ≡ u
+unfolding refused
+refused-unknown u n h = rw (no_bits n h, or_zero_r u.cml, gains-none u.cml, or-false u.alert)
+
+pub refused-done : (u : Unpaged) → refused u 0 ≡ u
+refused-done u = refused-unknown u 0 refl
 
 abbrev places : List ℕ
 places = 7 ∷ 6 ∷ 5 ∷ 4 ∷ 3 ∷ 2 ∷ 1 ∷ 0 ∷ []

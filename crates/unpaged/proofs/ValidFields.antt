@@ -1,7 +1,7 @@
 -- The valid unpaged parts, field by field.
 -- Assumes nothing.
-use Prim.Native.Nat.{ℕ, suc, ◌+◌}
-use mathlib.Core.Path.{◌≡◌, refl, sym, ◌∙◌}
+use Prim.Native.Nat.{ℕ, ◌+◌}
+use mathlib.Core.Path.{◌≡◌, sym, ◌∙◌}
 use mathlib.Core.Bool.{and-true, and_assoc}
 use native.Mathlib.Omega.{arith}
 use lib.Dec.{ltb, leb}

@@ -1,6 +1,6 @@
 -- The unpaged part of the device, and what a refusal leaves of it.
 -- Assumes nothing.
-use Rattle.std.specs.Prelude.{ℕ, Bool, true, false, cond, ◌&&◌, ◌||◌, ltb, eqb}
+use Rattle.std.specs.Prelude.{ℕ, Bool, false, cond, ◌&&◌, ◌||◌, ltb, eqb}
 use Rattle.std.specs.Int.Bits.{bit_or}
 use Rattle.account.specs.declared.Account.{Account}
 use Rattle.account.specs.Account.{account, account_valid}

@@ -1,29 +1,34 @@
 // The answers of what reaches the device beside read and write transactions.
-ghost use Rattle.std.specs.Prelude.{◌≡◌};
+ghost use Rattle.std.specs.Prelude.{◌≡◌, IfOk};
+ghost use Rattle.answer.specs.Answer.{answer_of};
+ghost use Rattle.cause.specs.Kinds.{quantity_number};
 ghost use Rattle.unpaged.specs.Events.{measure_answer, alert_answer};
 
-// A measurement of a quantity on a page, in a device with n pages.
-pub fn measure_answer(n: u8, page: u8, quantity: u8) -> u8
-    ensures { result ≡ measure_answer n page quantity }
+use answer::Refusal;
+use cause::Quantity;
+
+// A measurement of a quantity on a page, in a device with n pages: the quantity by name.
+#[tactic(auto, unfolding(crate::specs::Events::measure_answer))]
+pub fn measure_answer(n: u8, page: u8, quantity: u8) -> Result<Quantity, Refusal>
+    ensures answer { answer_of result ≡ measure_answer n page quantity }
+    ensures named { IfOk result (λ q. quantity_number q ≡ quantity) }
 {
-    if n <= page {
-        return answer::NO_SUCH_PLACE;
+    if page >= n {
+        return Err(Refusal::NoSuchPlace);
     }
-    if 3 < quantity {
-        return answer::NO_SUCH_PLACE;
-    }
-    answer::DONE
+    Quantity::try_from(quantity).map_err(|_| Refusal::NoSuchPlace)
 }
 
 // An alert response of n bytes.
-pub fn alert_answer(alert: bool, n: usize) -> u8
-    ensures { result ≡ alert_answer alert n }
+#[tactic(auto, unfolding(crate::specs::Events::alert_answer))]
+pub fn alert_answer(alert: bool, n: usize) -> Result<(), Refusal>
+    ensures { answer_of result ≡ alert_answer alert n }
 {
     if n != 1 {
-        return answer::MALFORMED;
+        return Err(Refusal::Malformed);
     }
     if !alert {
-        return answer::ALERT_DOWN;
+        return Err(Refusal::AlertDown);
     }
-    answer::DONE
+    Ok(())
 }

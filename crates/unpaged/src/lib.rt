@@ -3,12 +3,28 @@
 #![tactic(auto)]
 
 ghost use Rattle.std.specs.Prelude.{◌≡◌};
+ghost use Rattle.answer.specs.Answer.{number_of};
 ghost use Rattle.unpaged.specs.Unpaged.{valid_page, valid_protect, unpaged_valid, power_on_unpaged, cml_bits, refused, with_energy, shown};
 
 use account::Account;
+use answer::Refusal;
 
 pub mod events; // events.rt: the answers of measurements and alert responses
 
+// PAGE holding this selects every page (data sheet 3.8).
+pub const EVERY_PAGE: u8 = 0xFF;
+
+// The levels of WRITE_PROTECT (data sheet 4.1), each with what the one before protects: nothing; limits and responses; VOUT_COMMAND too; PAGE
+// and OPERATION too.
+pub const PROTECT_NOTHING: u8 = 0x00;
+
+pub const PROTECT_LIMITS: u8 = 0x20;
+
+pub const PROTECT_VOLTAGE: u8 = 0x40;
+
+pub const PROTECT_ALL: u8 = 0x80;
+
+// A level of protection by its byte, as the page: the C interface, and any byte may come in.
 #[repr(C)]
 #[derive(Clone, Copy)]
 pub struct Unpaged {
@@ -19,6 +35,7 @@ pub struct Unpaged {
     pub energy: Account,
 }
 
+#[tactic(auto, unfolding(crate::specs::Unpaged::power_on_unpaged))]
 pub fn power_on_unpaged() -> Unpaged
     ensures { result ≡ power_on_unpaged }
 {
@@ -36,69 +53,88 @@ pub fn power_on_unpaged() -> Unpaged
 }
 
 // PAGE of a device with n pages: a page, or FFh for every one.
+#[tactic(auto, unfolding(crate::specs::Unpaged::valid_page))]
 pub fn valid_page(n: u8, x: u8) -> bool
     ensures { result ≡ valid_page n x }
 {
-    (x < n) | (x == 0xFF)
+    x < n || x == EVERY_PAGE
 }
 
 // The page that a read looks at: the selected one, or page 0 where every one is.
+#[tactic(auto, unfolding(crate::specs::Unpaged::shown))]
 pub fn shown(u: Unpaged) -> u8
     ensures { result ≡ shown u }
 {
-    if u.page == 0xFF {
-        return 0;
-    }
-    u.page
+    if u.page == EVERY_PAGE { 0 } else { u.page }
 }
 
+#[tactic(auto, unfolding(crate::specs::Unpaged::valid_protect))]
 pub fn valid_protect(x: u8) -> bool
     ensures { result ≡ valid_protect x }
 {
-    (x == 0) | (x == 0x20) | (x == 0x40) | (x == 0x80)
+    matches!(
+        x,
+        PROTECT_NOTHING | PROTECT_LIMITS | PROTECT_VOLTAGE | PROTECT_ALL
+    )
 }
 
 // The unpaged part of a device with n pages is one that no answer 15 goes to.
+#[tactic(auto, unfolding(crate::specs::Unpaged::unpaged_valid))]
 pub fn unpaged_valid(n: u8, u: Unpaged) -> bool
     ensures { result ≡ unpaged_valid n u }
 {
-    let energy = u.energy;
-    valid_page(n, u.page) & valid_protect(u.protect) & account::account_valid(energy)
+    valid_page(n, u.page) && valid_protect(u.protect) && account::account_valid(u.energy)
 }
 
-// The bit of STATUS_CML that an answer sets, by its weight, or 0.
-pub fn cml_bits(answer: u8) -> u8
-    ensures { result ≡ cml_bits answer }
+// The bit of STATUS_CML that a refusal sets, by its weight, or 0.
+#[tactic(auto, unfolding(crate::specs::Unpaged::cml_bits))]
+fn bit_of(refusal: Refusal) -> u8
+    ensures { result ≡ cml_bits (number_of refusal) }
 {
-    match answer {
-        answer::UNSUPPORTED_COMMAND => 0x80,
-        answer::TOO_FEW_DATA => 0x02,
-        answer::TOO_MANY_DATA => 0x40,
-        answer::WRONG_PEC => 0x20,
-        answer::PROTECTED => 0x80,
-        answer::INVALID_DATA => 0x40,
-        answer::READ_TOO_SHORT => 0x02,
-        answer::READ_TOO_LONG => 0x02,
+    match refusal {
+        Refusal::UnsupportedCommand | Refusal::Protected => 0x80,
+        Refusal::TooManyData | Refusal::InvalidData => 0x40,
+        Refusal::WrongPec => 0x20,
+        Refusal::TooFewData | Refusal::ReadTooShort | Refusal::ReadTooLong => 0x02,
         _ => 0,
     }
 }
 
-// What an answer other than 0 leaves of the unpaged part: its bit of STATUS_CML, and the alert if that bit was 0.
+// The same of an answer number, whatever it is.
+pub fn cml_bits(answer: u8) -> u8
+    ensures { result ≡ cml_bits answer }
+{
+    match Refusal::try_from(answer) {
+        Ok(refusal) => bit_of(refusal),
+        Err(_) => 0,
+    }
+}
+
+// What a refusal leaves of the unpaged part: its bit of STATUS_CML, and the alert if that bit was 0.
+pub fn after(u: Unpaged, refusal: Refusal) -> Unpaged
+    ensures { result ≡ refused u (number_of refusal) }
+{
+    let cml = u.cml | bit_of(refusal);
+    Unpaged {
+        cml,
+        alert: u.alert || cml != u.cml,
+        ..u
+    }
+}
+
+// The same of an answer number, whatever it is (docs/PROMISES.md, 6.9): one that is no refusal's leaves everything.
 pub fn refused(u: Unpaged, answer: u8) -> Unpaged
     ensures { result ≡ refused u answer }
 {
-    let bits = cml_bits(answer);
-    let cml = u.cml | bits;
-    let mut v = u;
-    v.cml = cml;
-    v.alert = u.alert | ((u.cml | cml) != u.cml);
-    v
+    match Refusal::try_from(answer) {
+        Ok(refusal) => after(u, refusal),
+        Err(_) => u,
+    }
 }
 
+// The unpaged part with another account.
 pub fn with_energy(u: Unpaged, a: Account) -> Unpaged
     ensures { result ≡ with_energy u a }
 {
-    let mut v = u;
-    v.energy = a;
-    v
+    Unpaged { energy: a, ..u }
 }

@@ -1,4 +1,5 @@
 pub mod Orders
+pub mod Signed
 pub mod Powers
 pub mod Laws
 pub mod Shared

@@ -1,7 +1,7 @@
 -- Two values with the same coefficients stand to each other as their words do.
 -- Assumes nothing.
 use mathlib.Core.Path.{◌≡◌, refl, sym, ap, ap₂, ◌∙◌}
-use mathlib.Core.Bool.{true, false, cond}
+use mathlib.Core.Bool.{true, false, cond, true≢false, false≢true}
 use Prim.Native.Nat.{ℕ, zero, suc, ◌+◌, ◌-◌, ◌*◌, ◌%◌, ◌^◌, ◌<◌}
 use native.Mathlib.Nat.{mul-pos}
 use native.Mathlib.Omega.{arith}
@@ -9,10 +9,10 @@ use lib.Dec.{eqb, ltb}
 use lib.IntN.{ℤ, pos, negsuc, neg_ℤ, nat_abs, suc_ℤ, pred_ℤ, ◌+ℤ◌, ◌*ℤ◌, suc-pred, +ℤ_idr, +ℤ-suc_ℤ, +ℤ-pred_ℤ, *ℤ-zero}
 use lib.Signed.{lt_z}
 use native.Mathlib.Numerals.{unary_clauses}
-use borrow.Author.Tests.{lt-ltb, le-ltb, ltb-true, ltb-false, eqb-true, eqb-false}
+use borrow.Author.Tests.{lt-ltb, le-ltb, ltb-true, ltb-false, eqb-true, eqb-false, ne_eqb}
 use Rattle.laws.proofs.Branches.{either}
 use Rattle.linear11.specs.Linear11.{signed_of, order_of, word_order, linear_order}
-use Rattle.linear11.specs.declared.Order.TheVariants.{Equal}
+use Rattle.std.specs.declared.cmp.Ordering.TheVariants.{Equal}
 use Rattle.linear11.proofs.Range.{below-zero}
 use Rattle.value.specs.declared.format.Format.{Format}
 use Rattle.value.specs.Value.{ratio_order, above, under, signed_by, direct_top, direct_num, direct_den}
@@ -120,6 +120,12 @@ unfolding signed_of
 sign_of m h =
     either (ltb m 32768) (λ e. rw e (le-ltb m 0 (omega arith))) (λ e. rw (e, below-zero m 65536 h))
 
+not_high : (m : ℕ) → m < 65536 → lt_z (signed_word m) (pos 0) ≡ false → ltb m 32768 ≡ true
+not_high m h e = either (ltb m 32768) (λ y. y) (λ n. absurd (true≢false (sym (rw n at (sign_of m h)) ∙ e)))
+
+high : (m : ℕ) → m < 65536 → lt_z (signed_word m) (pos 0) ≡ true → ltb m 32768 ≡ false
+high m h e = either (ltb m 32768) (λ y. absurd (false≢true (sym (rw y at (sign_of m h)) ∙ e))) (λ n. n)
+
 pub some_size : (m : ℕ) → m < 65536 → (m ≡ 0 → ⊥) → 0 < nat_abs (signed_word m)
 unfolding signed_of
 some_size m h n =
@@ -132,6 +138,16 @@ some_size m h n =
 zero_size : (k : ℕ) → k ≡ 0 → nat_abs (signed_word k) ≡ 0
 unfolding signed_of
 zero_size k z = rw z
+
+-- DIRECT words by the sign of m
+module _ (m a b : ℕ) (hm : m < 65536) (ha : a < 65536) (hb : b < 65536) (some : m ≡ 0 → ⊥) where
+  pub direct-rising : lt_z (signed_word m) (pos 0) ≡ false → order_of (signed_word a) (signed_word b) ≡ direct_order m a b
+  unfolding direct_order
+  direct-rising e = rw (ne_eqb m 0 some, not_high m hm e) (word-order a b ha hb)
+
+  pub direct-falling : lt_z (signed_word m) (pos 0) ≡ true → order_of (signed_word b) (signed_word a) ≡ direct_order m a b
+  unfolding direct_order
+  direct-falling e = rw (ne_eqb m 0 some, high m hm e) (word-order b a hb ha)
 
 module _ (f : Format) (a b : ℕ) (ha : a < 65536) (hb : b < 65536) where
   pub by_linear : f.direct ≡ false → format_order f a b ≡ linear_order a b

@@ -1,4 +1,4 @@
--- What a valid DIRECT format has: m is not 0, and R is small.
+-- What a valid DIRECT format has: R is small.
 -- Assumes nothing.
 use mathlib.Core.Path.{◌≡◌}
 use mathlib.Core.Bool.{Bool, true, false, not, ◌&&◌, ◌||◌, and-eq-true_iff}
@@ -6,7 +6,6 @@ use Prim.Native.Nat.{ℕ, ◌≤◌, ◌<◌}
 use native.Mathlib.Omega.{arith}
 use lib.Dec.{T, eqb, ltb, leb, leb→le}
 use lib.IntN.{nat_abs}
-use borrow.Author.Tests.{eqb-false, not-true}
 use Rattle.laws.proofs.Every.{each}
 use Rattle.linear11.specs.Linear11.{signed_of}
 use Rattle.value.specs.declared.format.Format.{Format}
@@ -28,9 +27,6 @@ module _ (f : Format) (d : f.direct ≡ true) (v : format_valid f ≡ true) wher
   parts : (not (eqb f.m 0) && in_range f.r) ≡ true
   unfolding format_valid
   parts = rw d at v
-
-  pub valid_m : f.m ≡ 0 → ⊥
-  valid_m = eqb-false f.m 0 (not-true (eqb f.m 0) ((and-eq-true_iff (not (eqb f.m 0)) (in_range f.r)).0 parts).0)
 
   pub valid_r : f.r < 256 → nat_abs (signed_byte f.r) ≤ 6
   valid_r h = small_r f.r h ((and-eq-true_iff (not (eqb f.m 0)) (in_range f.r)).0 parts).1

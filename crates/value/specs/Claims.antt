@@ -2,7 +2,7 @@
 -- Assumes nothing.
 use Rattle.std.specs.Prelude.{ℕ, ◌^◌, ◌<◌, ◌≡◌, true, false, ◌↔◌, ℤ, pos, neg_ℤ, ◌+ℤ◌, ◌*ℤ◌, ◌<ℤ◌}
 use Rattle.linear11.specs.Linear11.{linear_order}
-use Rattle.linear11.specs.declared.Order.TheVariants.{Below, Equal, Above}
+use Rattle.std.specs.declared.cmp.Ordering.TheVariants.{Less, Equal, Greater}
 use Rattle.value.specs.declared.ratio.Ratio.{Ratio}
 use Rattle.value.specs.declared.format.Format.{Format}
 use Rattle.value.specs.Value.{ratio_order}
@@ -27,9 +27,9 @@ DirectMeans =
 
 -- fractions are in the order of what is left when both are multiplied by both denominators
 pub record ByProduct (x y : Ratio) : Type 0 where
-  pub below : (ratio_order x y ≡ Below) ↔ ((x.num *ℤ pos y.den) <ℤ (y.num *ℤ pos x.den))
+  pub below : (ratio_order x y ≡ Less) ↔ ((x.num *ℤ pos y.den) <ℤ (y.num *ℤ pos x.den))
   pub equal : (ratio_order x y ≡ Equal) ↔ (x.num *ℤ pos y.den ≡ y.num *ℤ pos x.den)
-  pub above : (ratio_order x y ≡ Above) ↔ ((y.num *ℤ pos x.den) <ℤ (x.num *ℤ pos y.den))
+  pub above : (ratio_order x y ≡ Greater) ↔ ((y.num *ℤ pos x.den) <ℤ (x.num *ℤ pos y.den))
 
 unfoldable pub OrderExact : Type 0
 OrderExact = (x y : Ratio) → ByProduct x y
@@ -46,12 +46,12 @@ pub record Examples : Type 0 where
   pub two_below : comparison falling 70 linear_format 0x07FE ≡ record { answer = 0; order = Equal }
   pub six_and_half : comparison rising 15 linear_format 0xF01A ≡ record { answer = 0; order = Equal }
   -- a greater word is a smaller value where m is negative
-  pub turned : comparison falling 71 falling 70 ≡ record { answer = 0; order = Below }
+  pub turned : comparison falling 71 falling 70 ≡ record { answer = 0; order = Less }
   -- 6.5 is above -2
-  pub across : comparison rising 15 falling 70 ≡ record { answer = 0; order = Above }
+  pub across : comparison rising 15 falling 70 ≡ record { answer = 0; order = Greater }
   -- Y = -1 stands for (-100 + 125) / 250 = 0.1, between the Linear11 words 9B33h and 9B34h, which are neighbours
-  pub tenth_above : comparison rising 0xFFFF linear_format 0x9B33 ≡ record { answer = 0; order = Above }
-  pub tenth_below : comparison rising 0xFFFF linear_format 0x9B34 ≡ record { answer = 0; order = Below }
+  pub tenth_above : comparison rising 0xFFFF linear_format 0x9B33 ≡ record { answer = 0; order = Greater }
+  pub tenth_below : comparison rising 0xFFFF linear_format 0x9B34 ≡ record { answer = 0; order = Less }
   -- m 0, and R 7 and -7, are not valid under a DIRECT mark
   pub no_slope : comparison (record { direct = true; m = 0; b = 3; r = 1 }) 70 linear_format 0 ≡ record { answer = 27; order = Equal }
   pub seven : comparison linear_format 0 (record { direct = true; m = 1; b = 3; r = 7 }) 70 ≡ record { answer = 27; order = Equal }

@@ -1,13 +1,13 @@
 -- A measured value as a fraction, and the exact order of two such values.
 -- Assumes nothing.
-use Rattle.std.specs.Prelude.{cond, ℕ, suc, ◌*◌, ◌^◌, ◌<◌, ◌≤◌, ℤ, pos, negsuc, neg_ℤ, nat_abs, ◌-ℤ◌, ◌*ℤ◌}
+use Rattle.std.specs.Prelude.{cond, ℕ, suc, ◌*◌, ◌^◌, ℤ, pos, negsuc, neg_ℤ, nat_abs, ◌-ℤ◌, ◌*ℤ◌}
 use Rattle.std.specs.Int.Signed.{lt_z}
 use Rattle.linear11.specs.Linear11.{mantissa, exponent, order_of}
-use Rattle.linear11.specs.declared.Order.{Order}
+use Rattle.std.specs.declared.cmp.Ordering.{Ordering}
 use Rattle.value.specs.declared.ratio.Ratio.{Ratio}
 
 -- the order of two fractions with denominators above 0: of what is left when both are multiplied by both denominators
-unfoldable pub ratio_order : Ratio → Ratio → Order
+unfoldable pub ratio_order : Ratio → Ratio → Ordering
 ratio_order x y = order_of (x.num *ℤ pos y.den) (y.num *ℤ pos x.den)
 
 -- z where it is above 0, and -z where it is below; otherwise 0
@@ -39,17 +39,3 @@ direct_num y m b r = signed_by m (direct_top y b r)
 
 unfoldable pub direct_den : ℤ → ℤ → ℕ
 direct_den m r = nat_abs m * 10 ^ above r
-
--- a fraction of which the products of num and den with another's fit into the two parts of the code
-pub record Small (num : ℤ) (den : ℕ) : Type 0 where
-  pub top : nat_abs num < 68719476736
-  pub some : 0 < den
-  pub bottom : den < 68719476736
-
--- the numbers of a DIRECT value: Y, m and b of 16 bits, m not 0, R from -6 to 6
-pub record Direct (y m b r : ℤ) : Type 0 where
-  pub y_small : nat_abs y ≤ 32768
-  pub m_small : nat_abs m ≤ 32768
-  pub m_some : 0 < nat_abs m
-  pub b_small : nat_abs b ≤ 32768
-  pub r_small : nat_abs r ≤ 6

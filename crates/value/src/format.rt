@@ -4,9 +4,9 @@ ghost use Rattle.std.specs.Prelude.{◌≡◌, ◌&&◌, ◌||◌, not};
 ghost use Rattle.value.specs.Format.{raised, direct_order, format_order, format_valid};
 ghost use Rattle.linear11.specs.Linear11.{word_order};
 
-use linear11::Order;
+use std::cmp::Ordering;
 
-// m and b are words, r is a byte, all in two's complement.
+// m and b are words, r is a byte, all in two's complement. `direct` is a mark beside them, and no Option: the C interface.
 #[repr(C)]
 #[derive(Clone, Copy)]
 pub struct Format {
@@ -16,36 +16,31 @@ pub struct Format {
     pub r: u8,
 }
 
-// A word in two's complement, moved up by 32768.
-fn raised(w: u16) -> u16
-    ensures { result ≡ raised w }
-{
-    (((w as u32) + 32768) % 65536) as u16
-}
+// Linear11 words.
+pub const LINEAR: Format = Format {
+    direct: false,
+    m: 0,
+    b: 0,
+    r: 0,
+};
 
-// The order of two words in two's complement.
-fn compare_signed(a: u16, b: u16) -> Order
-    ensures { result ≡ word_order (raised a) (raised b) }
-{
-    let x = raised(a);
-    let y = raised(b);
-    linear11::compare_unsigned(x, y)
-}
-
-fn compare_direct(m: u16, a: u16, b: u16) -> Order
+// Words of a DIRECT quantity with this m.
+#[tactic(auto, unfolding(crate::specs::Format::direct_order))]
+fn compare_direct(m: u16, a: u16, b: u16) -> Ordering
     ensures { result ≡ direct_order m a b }
 {
     if m == 0 {
-        return Order::Equal;
+        return Ordering::Equal;
     }
-    if m < 32768 {
-        return compare_signed(a, b);
+    let order = a.cast_signed().cmp(&b.cast_signed());
+    if m.cast_signed() < 0 {
+        return order.reverse();
     }
-    compare_signed(b, a)
+    order
 }
 
 // The order of the values of two words.
-pub fn compare_words(f: Format, a: u16, b: u16) -> Order
+pub fn compare_words(f: Format, a: u16, b: u16) -> Ordering
     ensures { result ≡ format_order f a b }
 {
     if f.direct {
@@ -55,8 +50,9 @@ pub fn compare_words(f: Format, a: u16, b: u16) -> Order
 }
 
 // Under a DIRECT mark m is not 0 and R is -6 to 6.
+#[tactic(auto, unfolding(crate::specs::Format::format_valid))]
 pub fn format_valid(f: Format) -> bool
     ensures { result ≡ format_valid f }
 {
-    !f.direct | ((f.m != 0) & ((f.r < 7) | (249 < f.r)))
+    !f.direct || (f.m != 0 && matches!(f.r.cast_signed(), -6..=6))
 }

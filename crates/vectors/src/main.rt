@@ -2,54 +2,45 @@
 // The frames of the sheet are the stored input of the program `bench`.
 #![tactic(auto)]
 
-fn line(n: u64) {
-    io::print_decimal(1, n);
-    io::write_all(1, b"\n");
-}
-
-fn wide(x: u8) -> u64 {
-    x as u64
-}
+use std::io;
+use std::io::Print;
 
 // The answer of a write transaction.
-fn wrote(bytes: &[u8]) {
-    let d = device::power_on();
-    let r = device::write(d, bytes);
-    line(wide(r.answer));
+fn wrote(rt: &impl Print, bytes: &[u8]) -> io::Result<()> {
+    let done = device::write(device::power_on(), bytes);
+    println!(rt; "{}", done.answer)
 }
 
 // The answer of a power sample.
-fn sampled(n: u16) {
-    let d = device::power_on();
-    let r = device::sample(d, n);
-    line(wide(r.answer));
+fn sampled(rt: &impl Print, power: u16) -> io::Result<()> {
+    let done = device::sample(device::power_on(), power);
+    println!(rt; "{}", done.answer)
 }
 
 // The answer of a read of STATUS_WORD.
-fn read_status_word(reply: &mut [u8]) {
-    let d = device::power_on();
-    let r = device::read(d, &[0xC0, 0x79, 0xC1], reply);
-    line(wide(r.answer));
+fn read_status_word(rt: &impl Print, reply: &mut [u8]) -> io::Result<()> {
+    let done = device::read(device::power_on(), &[0xC0, 0x79, 0xC1], reply);
+    println!(rt; "{}", done.answer)
 }
 
-fn main() {
-    let check = pec::pec(b"123456789");
-    io::print_hex(1, wide(check), 2);
-    io::write_all(1, b"\n");
-    wrote(&[0xC0, 0x00, 0x07]);
-    wrote(&[0xC0, 0x00, 0x08]);
-    wrote(&[0xC0, 0x00]);
-    wrote(&[0xC0, 0x00, 0x01, 0x00, 0x00]);
-    wrote(&[0xC0, 0x47, 0x80]);
-    wrote(&[0xC0, 0x7A, 0x80]);
-    sampled(32767);
-    sampled(32768);
-    let mut one = [0u8; 1];
-    read_status_word(&mut one);
-    let mut two = [0u8; 2];
-    read_status_word(&mut two);
-    let mut three = [0u8; 3];
-    read_status_word(&mut three);
-    let mut four = [0u8; 4];
-    read_status_word(&mut four);
+// The lines of the sheet, up to one that cannot be written.
+fn write_sheet(rt: &impl Print) -> io::Result<()> {
+    println!(rt; "{:02x}", pec::pec(b"123456789"))?;
+    wrote(rt, &[0xC0, 0x00, 0x07])?;
+    wrote(rt, &[0xC0, 0x00, 0x08])?;
+    wrote(rt, &[0xC0, 0x00])?;
+    wrote(rt, &[0xC0, 0x00, 0x01, 0x00, 0x00])?;
+    wrote(rt, &[0xC0, 0x47, 0x80])?;
+    wrote(rt, &[0xC0, 0x7A, 0x80])?;
+    sampled(rt, 32767)?;
+    sampled(rt, 32768)?;
+    read_status_word(rt, &mut [0; 1])?;
+    read_status_word(rt, &mut [0; 2])?;
+    read_status_word(rt, &mut [0; 3])?;
+    read_status_word(rt, &mut [0; 4])
+}
+
+// Where a line cannot be written there is nothing to do.
+fn main(rt: HostRuntime) {
+    let _ = write_sheet(&rt);
 }

@@ -1,7 +1,7 @@
 -- What the unpaged part keeps through an accepted write.
 -- Assumes nothing.
 use mathlib.Core.Path.{◌≡◌, refl, sym}
-use mathlib.Core.Bool.{true, false, false≢true}
+use mathlib.Core.Bool.{false, false≢true}
 use Rattle.unpaged.specs.declared.Unpaged.{Unpaged}
 use Rattle.writes.specs.declared.asked.Write.{Write}
 use Rattle.writes.specs.Left.{unpaged_left, clearing}

@@ -2,3 +2,4 @@ pub mod Kept
 pub mod Applies
 pub mod Accepted
 pub mod Shows
+pub mod StatusWritten

@@ -3,8 +3,7 @@
 -- Assumes nothing.
 use Rattle.std.specs.Prelude.{ℕ, ◌-◌, Bool, true, cond, ◌&&◌, ◌||◌, List, length, get_or, take, ltb, leb, eqb}
 use Rattle.pec.specs.Pec.{pec}
-use Rattle.command.specs.declared.table.Entry.{Entry}
-use Rattle.command.specs.Table.{lookup}
+use Rattle.command.specs.Table.{Entry, lookup}
 use Rattle.unpaged.specs.declared.Unpaged.{Unpaged}
 use Rattle.writes.specs.declared.asked.Write.{Write}
 use Rattle.writes.specs.Asked.{asked, valid_write}

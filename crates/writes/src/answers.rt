@@ -1,142 +1,101 @@
 // The answer of a write, from its bytes, the unpaged part and the number of pages n: 1 and 2, then 3, then 5, 6 and 7 for
-// its form, then 8 and 9 for its data.
-ghost use Rattle.std.specs.Prelude.{◌≡◌, ℕ, ◌≤◌, length, get_or};
+// its form, then 8 and 9 for its data. n and u stay apart, as docs/PROMISES.md has `write_answer` (2.1 and on).
+ghost use Rattle.std.specs.Prelude.{◌≡◌, ℕ, get_or, IfOk};
+ghost use Rattle.answer.specs.Answer.{answer_of};
 ghost use Rattle.unpaged.specs.declared.Unpaged.{Unpaged as UnpagedRecord};
-ghost use Rattle.writes.specs.declared.asked.Write.{Write as WriteKind};
 ghost use Rattle.writes.specs.Asked.{asked};
-ghost use Rattle.writes.specs.Answers.{check_right, permitted, by_form, data_answer, length_answer, code_answer, addressed_answer, write_answer};
+ghost use Rattle.writes.specs.Answers.{check_right, permitted, by_form, data_answer, write_answer};
 
+use super::asked;
 use super::asked::Write;
-use super::{asked, bytes};
-use command::Entry;
-use unpaged::Unpaged;
+use super::bytes::{WRITE_ADDRESS, byte_at};
+use answer::Refusal;
+use command::codes::*;
+use unpaged::{PROTECT_LIMITS, PROTECT_NOTHING, PROTECT_VOLTAGE, Unpaged};
 
 // The last byte is the packet check of all bytes before it.
+#[tactic(auto, unfolding(crate::specs::Answers::check_right))]
 fn check_right(s: &[u8]) -> bool
-    requires { 2 ≤ length s.now }
     ensures { result ≡ check_right s.now }
 {
-    let m = s.len() - 1;
-    pec::pec(&s[..m]) == s[m]
+    match s {
+        [] => true,
+        [covered @ .., check] => pec::pec(covered) == *check,
+    }
 }
 
 // WRITE_PROTECT permits a write of this code.
+#[tactic(auto, unfolding(crate::specs::Answers::permitted))]
 pub fn permitted(protect: u8, code: u8) -> bool
     ensures { result ≡ permitted protect code }
 {
-    let status = (0x7A <= code) & (code <= 0x7E);
-    let always = (code == 0x10) | (code == 0x03) | status;
-    let operate = (code == 0x01) | (code == 0x00);
+    let always = matches!(
+        code,
+        WRITE_PROTECT | CLEAR_FAULTS | STATUS_VOUT..=STATUS_CML
+    );
+    let operate = matches!(code, OPERATION | PAGE);
     match protect {
-        0x00 => true,
-        0x20 => always | operate | (code == 0x21),
-        0x40 => always | operate,
+        PROTECT_NOTHING => true,
+        PROTECT_LIMITS => always || operate || code == VOUT_COMMAND,
+        PROTECT_VOLTAGE => always || operate,
         _ => always,
     }
 }
 
 // A well formed write: 8 where it is protected, 9 where its data are invalid.
-fn data_answer(n: u8, u: Unpaged, code: u8, w: Write) -> u8
-    ensures { result ≡ data_answer n u code w }
+#[tactic(auto, unfolding(crate::specs::Answers::data_answer))]
+fn check_data(n: u8, u: Unpaged, code: u8, write: Write) -> Result<(), Refusal>
+    ensures { answer_of result ≡ data_answer n u code write }
 {
     if !permitted(u.protect, code) {
-        return answer::PROTECTED;
+        return Err(Refusal::Protected);
     }
-    if !asked::valid_write(n, w) {
-        return answer::INVALID_DATA;
+    if !asked::valid_write(n, write) {
+        return Err(Refusal::InvalidData);
     }
-    answer::DONE
+    Ok(())
 }
 
-// The form of a write, from its bytes alone: the answer that it gets for its form, and 0 where the data decide. A code with
-// k data bytes: 5, 6 and 7 for its length and its packet check.
-fn length_form(s: &[u8], k: usize) -> u8
-    requires { 2 ≤ length s.now }
-    ensures { (n : ℕ) (u : UnpagedRecord) (code : ℕ) (w : WriteKind) → by_form result (data_answer n u code w) ≡ length_answer n u s.now k code w }
+// The form of a write, from its bytes alone: address, a code that is written, its data, and perhaps the right packet check.
+#[tactic(auto, unfolding(crate::specs::Answers::write_answer, crate::specs::Answers::addressed_answer, crate::specs::Answers::code_answer, crate::specs::Answers::length_answer))]
+fn check_form(s: &[u8]) -> Result<(), Refusal>
+    ensures { (n : ℕ) (u : UnpagedRecord) → by_form (answer_of result) (data_answer n u (get_or s.now 1 0) (asked s.now)) ≡ write_answer n u s.now }
 {
-    let given = s.len() - 2;
-    if given < k {
-        return answer::TOO_FEW_DATA;
+    let (code, given) = match s {
+        [] | [WRITE_ADDRESS] => return Err(Refusal::Malformed),
+        [WRITE_ADDRESS, code, data @ ..] => (*code, data.len()),
+        _ => return Err(Refusal::WrongAddress),
+    };
+    let due = match command::lookup(code) {
+        Some(entry) if entry.written => entry.length as usize,
+        _ => return Err(Refusal::UnsupportedCommand),
+    };
+    if given < due {
+        return Err(Refusal::TooFewData);
     }
-    if given == k {
-        return answer::DONE;
+    if given > due + 1 {
+        return Err(Refusal::TooManyData);
     }
-    if given - k != 1 {
-        return answer::TOO_MANY_DATA;
+    if given > due && !check_right(s) {
+        return Err(Refusal::WrongPec);
     }
-    if !check_right(s) {
-        return answer::WRONG_PEC;
-    }
-    answer::DONE
+    Ok(())
 }
 
-// A code whose table entry is e: 3 where it is absent or not written.
-fn code_form(s: &[u8], e: Entry) -> u8
-    requires { 2 ≤ length s.now }
-    ensures { (n : ℕ) (u : UnpagedRecord) (code : ℕ) (w : WriteKind) → by_form result (data_answer n u code w) ≡ code_answer n u s.now e code w }
+// What a write asks for, if it is accepted. That is told once, and only where the form is right.
+pub fn judge(n: u8, u: Unpaged, s: &[u8]) -> Result<Write, Refusal>
+    ensures answer { answer_of result ≡ write_answer n u s.now }
+    ensures write { IfOk result (λ write. write ≡ asked s.now) }
 {
-    if !e.written {
-        return answer::UNSUPPORTED_COMMAND;
-    }
-    let k = e.length as usize;
-    length_form(s, k)
+    check_form(s)?;
+    let write = asked::asked(s);
+    check_data(n, u, byte_at(s, 1), write)?;
+    Ok(write)
 }
 
-// A write addressed to the device, with a code.
-fn addressed_form(s: &[u8]) -> u8
-    requires { 2 ≤ length s.now }
-    ensures { (n : ℕ) (u : UnpagedRecord) → by_form result (data_answer n u (get_or s.now 1 0) (asked s.now)) ≡ addressed_answer n u s.now }
+pub fn write_answer(n: u8, u: Unpaged, s: &[u8]) -> Result<(), Refusal>
+    ensures { answer_of result ≡ write_answer n u s.now }
 {
-    let code = bytes::byte_at(s, 1);
-    let e = command::lookup(code);
-    code_form(s, e)
-}
-
-fn form_answer(s: &[u8]) -> u8
-    ensures { (n : ℕ) (u : UnpagedRecord) → by_form result (data_answer n u (get_or s.now 1 0) (asked s.now)) ≡ write_answer n u s.now }
-{
-    if s.len() == 0 {
-        return answer::MALFORMED;
-    }
-    if s[0] != 0xC0 {
-        return answer::WRONG_ADDRESS;
-    }
-    if s.len() == 1 {
-        return answer::MALFORMED;
-    }
-    addressed_form(s)
-}
-
-// The answer of a write, and what it asks for where it is accepted.
-#[derive(Clone, Copy)]
-pub struct Judged {
-    pub answer: u8,
-    pub write: Write,
-}
-
-// What a write asks for is told once, and only where its form is right.
-pub fn judge(n: u8, u: Unpaged, s: &[u8]) -> Judged
-    ensures { (result.answer ≡ write_answer n u s.now) × (result.answer ≡ 0 → result.write ≡ asked s.now) }
-{
-    let form = form_answer(s);
-    if form != answer::DONE {
-        return Judged {
-            answer: form,
-            write: Write::Nothing,
-        };
-    }
-    let code = bytes::byte_at(s, 1);
-    let w = asked::asked(s);
-    let a = data_answer(n, u, code, w);
-    Judged {
-        answer: a,
-        write: w,
-    }
-}
-
-pub fn write_answer(n: u8, u: Unpaged, s: &[u8]) -> u8
-    ensures { result ≡ write_answer n u s.now }
-{
-    let j = judge(n, u, s);
-    j.answer
+    judge(n, u, s)?;
+    Ok(())
 }

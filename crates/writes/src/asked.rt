@@ -1,22 +1,23 @@
 // What a write asks for, as data: a few kinds, whatever the command. Which data are valid.
 ghost use Rattle.std.specs.Prelude.{◌≡◌};
-ghost use Rattle.writes.specs.Asked.{clear_faults, register_masks, clear_status, write_of, asked, valid_setting, valid_write};
+ghost use Rattle.cause.specs.Kinds.{register_number};
+ghost use Rattle.writes.specs.Asked.{register_masks, write_of, asked, valid_setting, valid_write};
 
-use super::bytes;
+use super::bytes::{byte_at, word_of};
+use cause::{Cause, Limit, Register};
 use command::Command;
 
 // One setting of a page.
-#[derive(Clone, Copy)]
+#[derive(Clone, Copy, PartialEq, Eq)]
 pub enum Setting {
     Operation(u8),
     VoutCommand(u16),
-    // a limit by its number; a response by the number of its cause
-    Limit(u8, u16),
-    Response(u8, u8),
+    Limit(Limit, u16),
+    Response(Cause, u8),
 }
 
 // The status bits to clear, by register.
-#[derive(Clone, Copy)]
+#[derive(Clone, Copy, PartialEq, Eq)]
 pub struct Masks {
     pub vout: u8,
     pub iout: u8,
@@ -25,9 +26,26 @@ pub struct Masks {
     pub cml: u8,
 }
 
-#[derive(Clone, Copy)]
+const NO_BITS: Masks = Masks {
+    vout: 0,
+    iout: 0,
+    input: 0,
+    temperature: 0,
+    cml: 0,
+};
+
+const EVERY_BIT: Masks = Masks {
+    vout: 0xFF,
+    iout: 0xFF,
+    input: 0xFF,
+    temperature: 0xFF,
+    cml: 0xFF,
+};
+
+#[derive(Clone, Copy, PartialEq, Eq)]
 pub enum Write {
-    // a code that is never written
+    // A code that is never written. It is a case here, and no None: the form of a write is looked at before, so whoever takes an accepted
+    // write would unwrap what is always there.
     Nothing,
     SelectPage(u8),
     Protect(u8),
@@ -39,107 +57,81 @@ pub enum Write {
     ClearCml(u8),
 }
 
-// CLEAR_FAULTS clears every bit.
-fn clear_faults() -> Write
-    ensures { result ≡ clear_faults }
-{
-    let masks = Masks {
-        vout: 255,
-        iout: 255,
-        input: 255,
-        temperature: 255,
-        cml: 255,
-    };
-    Write::Clear(masks)
-}
-
 // The mask of one register of the pages.
-fn register_masks(k: u8, x: u8) -> Masks
-    ensures { result ≡ register_masks k x }
+#[tactic(auto, unfolding(crate::specs::Asked::register_masks, page::specs::Causes::weigh))]
+fn register_masks(register: Register, mask: u8) -> Masks
+    ensures { result ≡ register_masks (register_number register) mask }
 {
-    Masks {
-        vout: page::causes::weigh(k == 0, x),
-        iout: page::causes::weigh(k == 1, x),
-        input: page::causes::weigh(k == 2, x),
-        temperature: page::causes::weigh(k == 3, x),
-        cml: 0,
+    match register {
+        Register::Vout => Masks {
+            vout: mask,
+            ..NO_BITS
+        },
+        Register::Iout => Masks {
+            iout: mask,
+            ..NO_BITS
+        },
+        Register::Input => Masks {
+            input: mask,
+            ..NO_BITS
+        },
+        Register::Temperature => Masks {
+            temperature: mask,
+            ..NO_BITS
+        },
     }
 }
 
-fn clear_register(k: u8, x: u8) -> Write
-    ensures { result ≡ Write.Clear (register_masks k x) }
-{
-    let masks = register_masks(k, x);
-    Write::Clear(masks)
-}
-
-// A status register is written with ones at the bits to clear; 4 is STATUS_CML, which belongs to no page.
-fn clear_status(k: u8, x: u8) -> Write
-    ensures { result ≡ clear_status k x }
-{
-    if k == 4 {
-        return Write::ClearCml(x);
-    }
-    clear_register(k, x)
-}
-
-// A change of one setting.
-fn change(s: Setting) -> Write
-    ensures { result ≡ Write.Change s }
-{
-    Write::Change(s)
-}
-
-// The write of a command with the first data byte x and the data word.
+// The write of a command with the first data byte x and the data word. A status register is written with ones at the bits to clear, and
+// CLEAR_FAULTS clears every bit.
+#[tactic(auto, unfolding(crate::specs::Asked::write_of, crate::specs::Asked::clear_faults, crate::specs::Asked::clear_status))]
 pub fn write_of(command: Command, x: u8, word: u16) -> Write
     ensures { result ≡ write_of command x word }
 {
     match command {
         Command::SelectPage => Write::SelectPage(x),
         Command::WriteProtect => Write::Protect(x),
-        Command::ClearFaults => clear_faults(),
-        Command::Operation => change(Setting::Operation(x)),
-        Command::VoutCommand => change(Setting::VoutCommand(word)),
-        Command::Limit(k) => change(Setting::Limit(k, word)),
-        Command::Response(k) => change(Setting::Response(k, x)),
-        Command::Status(k) => clear_status(k, x),
+        Command::ClearFaults => Write::Clear(EVERY_BIT),
+        Command::Operation => Write::Change(Setting::Operation(x)),
+        Command::VoutCommand => Write::Change(Setting::VoutCommand(word)),
+        Command::Limit(limit) => Write::Change(Setting::Limit(limit, word)),
+        Command::Response(cause) => Write::Change(Setting::Response(cause, x)),
+        Command::Status(register) => Write::Clear(register_masks(register, x)),
+        Command::StatusCml => Write::ClearCml(x),
         _ => Write::Nothing,
     }
 }
 
-// The write of a transaction's bytes.
+// The write of a transaction's bytes: address, code, data.
+#[tactic(auto, unfolding(crate::specs::Asked::asked))]
 pub fn asked(s: &[u8]) -> Write
     ensures { result ≡ asked s.now }
 {
-    let code = bytes::byte_at(s, 1);
-    let x = bytes::byte_at(s, 2);
-    let y = bytes::byte_at(s, 3);
-    let command = command::command_of(code);
-    let word = bytes::word_of(x, y);
-    write_of(command, x, word)
+    let command = command::command_of(byte_at(s, 1));
+    let x = byte_at(s, 2);
+    write_of(command, x, word_of(x, byte_at(s, 3)))
 }
 
-fn valid_setting(s: Setting) -> bool
-    ensures { result ≡ valid_setting s }
+#[tactic(auto, unfolding(crate::specs::Asked::valid_setting))]
+fn valid_setting(setting: Setting) -> bool
+    ensures { result ≡ valid_setting setting }
 {
-    match s {
+    match setting {
         Setting::Operation(x) => page::settings::valid_operation(x),
-        Setting::VoutCommand(_) => true,
-        Setting::Limit(_, _) => true,
-        Setting::Response(k, x) => page::settings::valid_response(k, x),
+        Setting::Response(cause, x) => page::settings::valid_response(cause.into(), x),
+        Setting::VoutCommand(_) | Setting::Limit(_, _) => true,
     }
 }
 
 // The data are valid, in a device with n pages.
-pub fn valid_write(n: u8, w: Write) -> bool
-    ensures { result ≡ valid_write n w }
+#[tactic(auto, unfolding(crate::specs::Asked::valid_write))]
+pub fn valid_write(n: u8, write: Write) -> bool
+    ensures { result ≡ valid_write n write }
 {
-    match w {
-        Write::Nothing => true,
+    match write {
         Write::SelectPage(x) => unpaged::valid_page(n, x),
         Write::Protect(x) => unpaged::valid_protect(x),
-        Write::Change(s) => valid_setting(s),
-        Write::Clear(_) => true,
-        Write::ClearCml(_) => true,
+        Write::Change(setting) => valid_setting(setting),
+        Write::Nothing | Write::Clear(_) | Write::ClearCml(_) => true,
     }
 }

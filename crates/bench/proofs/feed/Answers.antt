@@ -12,10 +12,12 @@ loop-at-init c = (omega arith, (refl, refl, refl))
 
 pub loop-at-preserved : goal.loop-at-preserved
 loop-at-preserved c =
+    let b = c.args.b in
+    let left = c.loop-at.left in
     let ran = c.run_block-p in
     let r = ran.ensures in (
       r.within c.loop-at.invariant.0,
-      part-on c.args.d c.args.line.now c.args.n c.args.block.now c.loop-at.at ran.result.next r.from c.loop-at.e c.loop-at.line c.loop-at.k
+      part-on b.device c.args.line.now b.length c.args.block.now c.loop-at.at ran.result.next r.from left.device c.loop-at.line left.length
           c.loop-at.invariant.1 ran.result.device _ ran.result.length
           (ap (λ (f : Fed). f.device) r.feeds, ap (λ (f : Fed). f.line) r.feeds, ap (λ (f : Fed). f.length) r.feeds),
     )

@@ -7,7 +7,8 @@ use Rattle.bench.specs.Held.{Leaves}
 use Rattle.bench.proofs.feed.Given as goal
 
 abbrev pub invariant-loop-at : goal.invariant-loop-at
-invariant-loop-at l = (l.at ≤ length l.block) × Leaves (feed l.fn.d l.fn.line l.fn.n (take l.at l.block)) l.e l.line l.k
+invariant-loop-at l =
+    (l.at ≤ length l.block) × Leaves (feed l.fn.b.device l.fn.line l.fn.b.length (take l.at l.block)) l.left.device l.line l.left.length
 
 abbrev pub decreases-loop-at : goal.decreases-loop-at
 decreases-loop-at l = length l.block - l.at

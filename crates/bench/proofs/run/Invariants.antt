@@ -3,8 +3,5 @@
 use Rattle.bench.specs.Held.{Reached}
 use Rattle.bench.proofs.run.Given as goal
 
-abbrev pub invariant-loop-turns : goal.invariant-loop-turns
-invariant-loop-turns l = Reached l.d l.line l.n
-
-abbrev pub decreases-loop-turns : goal.decreases-loop-turns
-decreases-loop-turns l = l.turns
+abbrev pub invariant-loop : goal.invariant-loop
+invariant-loop l = Reached l.b.device l.line l.b.length

@@ -1,19 +1,25 @@
 -- `device::sample` meets its contract.
 -- Assumes nothing.
-use mathlib.Core.Path.{ap}
-use Rattle.account.specs.declared.Sampled.{Sampled}
-use Rattle.device.specs.Step.{sample, answer_of}
-use Rattle.device.proofs.Calls.{answer-made, stepped}
+use Rattle.std.proofs.Common.{ap, ◌∙◌}
+use Rattle.account.specs.declared.Account.{Account}
+use Rattle.unpaged.specs.Unpaged.{with_energy}
+use Rattle.device.specs.Device.{device}
+use Rattle.device.specs.Step.{sample, answer_of, effect}
+use Rattle.device.proofs.Calls.{answer-made, stepped, done_left, refused_left}
 use Rattle.device.proofs.sample.Goals as goal
 
-pub after_sample-next-requires : goal.after_sample-next-requires
-after_sample-next-requires c = ap (λ (s : Sampled). s.account) c.sample-s.ensures
-
-pub returns : goal.returns
-unfolding answer_of
-returns c =
+pub returns-in-Ok : goal.returns-in-Ok
+unfolding answer_of effect
+returns-in-Ok c =
     let a = c.args in
-    stepped a.d (sample a.power) _ _
-    (answer-made a.d (sample a.power) _ _ _ c.device_valid-valid.ensures
-    (ap (λ (s : Sampled). s.answer) c.sample-s.ensures) c.answered-answer.ensures)
-    c.after_sample-next.ensures
+    let d = a.d in
+    let made = answer-made d (sample a.power) _ _ _ c.is_valid.ensures (c.sample-rule.ensures.answer) (c.number-number.ensures ∙ c.checked-answer.ensures.answer) in
+    stepped d (sample a.power) _ _ made (done_left d (sample a.power) _ _ (rw c.in-Ok.is at c.number-number.ensures) (ap (λ (e : Account). device (with_energy d.unpaged e) d.pages) (rw c.in-Ok.ensures.given at c.sample-rule.ensures.account)))
+
+pub returns-in-Err : goal.returns-in-Err
+unfolding answer_of effect
+returns-in-Err c =
+    let a = c.args in
+    let d = a.d in
+    let made = answer-made d (sample a.power) _ _ _ c.is_valid.ensures (c.sample-rule.ensures.answer) (c.number-number.ensures ∙ c.checked-answer.ensures.answer) in
+    stepped d (sample a.power) _ _ made (refused_left d (sample a.power) c.in-Err.refusal _ _ (rw c.in-Err.is at c.number-number.ensures) c.refuse.ensures)

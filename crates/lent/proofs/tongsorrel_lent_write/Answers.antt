@@ -1,24 +1,25 @@
 -- `lent::tongsorrel_lent_write` meets its contract.
 -- Assumes nothing.
-use Rattle.std.proofs.Common.{ap, ◌∙◌}
+use Rattle.std.proofs.Common.{◌≡◌, ◌&&◌, ap, ◌∙◌}
+use Rattle.laws.specs.Lists.{any_of}
+use Rattle.page.specs.Status.{any_status}
 use Rattle.lent.specs.declared.Outcome.{Outcome}
 use Rattle.lent.specs.Lent.{beside}
-use Rattle.lent.proofs.Known.{write_known, write_asked}
+use Rattle.lent.proofs.Known.{write_known}
 use Rattle.lent.proofs.Outcomes.{write_lent}
 use Rattle.lent.proofs.tongsorrel_lent_write.Goals as goal
+use Rattle.lent.proofs.tongsorrel_lent_write.Goals.{then-t, else-t}
 
 pub returns : goal.returns
 returns c =
     let u = c.args.u in
     let ps = c.args.pages.now in
     let bytes = c.args.bytes.now in
-    let s = c.survey-seen.result in
-    let p = c.take-p.result in
-    let j = c.judged-j.result in
-    let t = c.write_turn-t.result in
-    let zs = c.every-rose.new.pages in
+    let t = c.write_left-t.result in
+    let zs = c.rest-rose.new.pages in
+    let standing : c.if-t.standing ≡ (t.clears && any_of any_status zs) =
+    elim c.if-t.branch [ then-t w ↦ w.standing-is ∙ rw w.if-t.true w.any_bit-standing.ensures | else-t w ↦ w.standing-is ∙ rw w.if-t.false ] in
     ap (λ (r : Outcome). beside r zs) c.finished.ensures
-    ∙ write_lent u ps bytes p j.write t c.put.new.pages zs c.every-rose.result c.any_bit-standing.result c.take-p.ensures
-    (write_asked u s bytes j c.judged-j.ensures.0 ps c.survey-seen.ensures c.judged-j.ensures.1)
-    (write_known u s bytes j c.judged-j.ensures.0 ps c.survey-seen.ensures p t c.write_turn-t.ensures)
-    c.put.ensures c.every-rose.ensures.0 c.every-rose.ensures.1 c.any_bit-standing.ensures
+    ∙ write_lent u ps bytes c.take-p.result c.judged-write.result t c.put.new.pages zs c.rest-rose.result c.if-t.standing c.take-p.ensures
+    (write_known u c.survey-seen.result bytes c.judged-write.result c.judged-write.ensures.answer ps c.survey-seen.ensures)
+    c.judged-write.ensures.write c.write_left-t.ensures c.put.ensures c.rest-rose.ensures.rose c.rest-rose.ensures.after standing

@@ -2,7 +2,6 @@
 -- Assumes nothing.
 use Rattle.std.proofs.Common.{◌≡◌, ℕ, zero, suc, ◌+◌, ◌<◌, List, [], ◌∷◌, ◌++◌, length, get_or, take, set, refl, sym, ap, ◌∙◌, add-one, arith}
 use Rattle.std.proofs.Math.Seq.{take-suc-set}
-use Rattle.std.proofs.Math.ListN.{length-set}
 use Rattle.page.specs.declared.Page.{Page}
 use Rattle.page.specs.declared.PageChoice.{PageChoice}
 use Rattle.page.specs.Choice.{usual_page, chosen_page}
@@ -23,7 +22,4 @@ step cs c p l i h ec ep inv =
 
 pub loop-i-preserved : goal.loop-i-preserved
 loop-i-preserved c =
-    let h : c.loop-i.i < length c.loop-i.pages = omega arith in (
-      omega (arith, length-set c.loop-i.pages c.loop-i.i c.chosen_page-p.result),
-      step c.args.choices.now c.choice_at-c.result c.chosen_page-p.result c.loop-i.pages c.loop-i.i h c.choice_at-c.ensures c.chosen_page-p.ensures c.loop-i.invariant.1,
-    )
+    step c.args.choices.now c.choice_at.result c.chosen_page.result c.loop-i.pages c.loop-i.i (omega arith) c.choice_at.ensures c.chosen_page.ensures c.loop-i.invariant

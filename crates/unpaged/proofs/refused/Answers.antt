@@ -1,12 +1,12 @@
 -- `unpaged::refused` meets its contract.
 -- Assumes nothing.
+use Rattle.std.proofs.Common.{sym, ap, ◌∙◌}
 use Rattle.unpaged.specs.Unpaged.{refused}
-use borrow.Author.Rules.{rules}
+use Rattle.unpaged.proofs.Refusals.{refused-unknown}
 use Rattle.unpaged.proofs.refused.Goals as goal
 
-pub cml_bits-bits-requires : goal.cml_bits-bits-requires
-cml_bits-bits-requires c = search rules
+pub returns-in-Err : goal.returns-in-Err
+returns-in-Err c = sym (refused-unknown c.args.u c.args.answer c.in-Err.ensures.1)
 
-pub returns : goal.returns
-unfolding refused
-returns c = cc
+pub returns-in-Ok : goal.returns-in-Ok
+returns-in-Ok c = c.after.ensures ∙ ap (refused c.args.u) c.in-Ok.ensures

@@ -1,23 +1,21 @@
 -- `buffer::calls::alert` meets its contract.
 -- Assumes nothing.
-use Rattle.layout.specs.Layout.{size}
-use lib.ListN.{length}
 use borrow.Author.Tests.{eq-eqb, ne_eqb}
-use mathlib.Core.Path.{sym, ap, ◌∙◌}
-use mathlib.Core.Bool.{cond}
-use Rattle.unpaged.specs.declared.Unpaged.{Unpaged}
+use Rattle.std.proofs.Common.{length, ap, sym, ◌≡◌, ◌∙◌}
+use Rattle.layout.specs.Layout.{size}
+use Rattle.layout.specs.State.{device_of}
 use Rattle.layout.proofs.Decoded.{unpaged-of}
+use Rattle.buffer.proofs.Held.{byte_is}
 use Rattle.buffer.specs.Buffer.{buffer_alert}
-use native.Mathlib.Omega.{arith}
-use borrow.Author.Rules.{rules}
 use Rattle.buffer.proofs.calls.alert.Goals as goal
 
-pub returns-then-s-ne-SIZE : goal.returns-then-s-ne-SIZE
+pub returns-in-Some : goal.returns-in-Some
 unfolding buffer_alert
-returns-then-s-ne-SIZE c = rw (ne_eqb (length c.args.s.now) size (λ e. omega arith))
+returns-in-Some c =
+    let h = c.in-Some.ensures.cases in
+    let u : c.unpaged_of.result ≡ (device_of c.args.s.now).unpaged = c.unpaged_of.ensures ∙ sym (unpaged-of _) ∙ ap (λ s. (device_of s).unpaged) h.same in
+    rw (eq-eqb (length c.args.s.now) size h.long, ← u) (byte_is _ _ c.from.ensures)
 
-pub returns : goal.returns
+pub returns-in-None : goal.returns-in-None
 unfolding buffer_alert
-returns c =
-    rw (eq-eqb (length c.args.s.now) size (search rules))
-    (c.byte_of.ensures ∙ ap (λ (u : Unpaged). cond u.alert 1 0) (c.load_unpaged-u.ensures ∙ sym (unpaged-of _)))
+returns-in-None c = rw (ne_eqb (length c.args.s.now) size c.in-None.ensures.cases)

@@ -1,16 +1,15 @@
 -- `buffer::calls::measure` meets its contract.
 -- Assumes nothing.
-use Rattle.buffer.proofs.Held.{was_ready, was_not, was_held, call_refused, call_taken}
-use mathlib.Core.Path.{ap}
-use mathlib.Core.Bool.{not}
+use Rattle.device.specs.Step.{measure}
+use Rattle.buffer.proofs.Held.{was_held, call_refused, call_taken}
 use Rattle.buffer.proofs.calls.measure.Goals as goal
 
-pub returns-then-not-ready : goal.returns-then-not-ready
-returns-then-not-ready c = call_refused _ (was_not _ _ c.ready.ensures (ap not c.if-not-ready.true)) _
-
 pub measured-requires : goal.measured-requires
-measured-requires c = was_held _ _ c.ready.ensures (ap not c.if-not-ready.false)
+measured-requires c = was_held _ _ c.in-Some.ensures.cases
 
-pub returns : goal.returns
-returns c =
-    let r = c.measured.ensures in call_taken _ (was_ready _ _ c.ready.ensures (ap not c.if-not-ready.false)) _ _ _ r.0 r.1
+pub returns-in-Some : goal.returns-in-Some
+returns-in-Some c =
+    let r = c.measured.ensures in call_taken _ _ c.in-Some.ensures.cases (measure c.args.page c.args.quantity c.args.word) _ _ r.answer r.left
+
+pub returns-in-None : goal.returns-in-None
+returns-in-None c = call_refused _ c.in-None.ensures.cases _

@@ -1,19 +1,18 @@
 -- `buffer::calls::supplies` meets its contract.
 -- Assumes nothing.
-use Rattle.layout.specs.Layout.{size}
-use lib.ListN.{length}
 use borrow.Author.Tests.{eq-eqb, ne_eqb}
-use mathlib.Core.Path.{ap, ◌∙◌}
-use mathlib.Core.Bool.{Bool, cond}
+use Rattle.std.proofs.Common.{length}
+use Rattle.layout.specs.Layout.{size}
+use Rattle.buffer.proofs.Held.{byte_is}
 use Rattle.buffer.specs.Buffer.{buffer_supplies}
-use native.Mathlib.Omega.{arith}
-use borrow.Author.Rules.{rules}
 use Rattle.buffer.proofs.calls.supplies.Goals as goal
 
-pub returns-then-s-ne-SIZE : goal.returns-then-s-ne-SIZE
+pub returns-in-Some : goal.returns-in-Some
 unfolding buffer_supplies
-returns-then-s-ne-SIZE c = rw (ne_eqb (length c.args.s.now) size (λ e. omega arith))
+returns-in-Some c =
+    let h = c.in-Some.ensures.cases in
+    rw (eq-eqb (length c.args.s.now) size h.long, ← h.same, ← c.supplying.ensures) (byte_is _ _ c.from.ensures)
 
-pub returns : goal.returns
+pub returns-in-None : goal.returns-in-None
 unfolding buffer_supplies
-returns c = rw (eq-eqb (length c.args.s.now) size (search rules)) (c.byte_of.ensures ∙ ap (λ (b : Bool). cond b 1 0) c.supplying-on.ensures)
+returns-in-None c = rw (ne_eqb (length c.args.s.now) size c.in-None.ensures.cases)

@@ -1,16 +1,15 @@
 -- `buffer::calls::tick` meets its contract.
 -- Assumes nothing.
-use Rattle.buffer.proofs.Held.{was_ready, was_not, was_held, call_refused, call_taken}
-use mathlib.Core.Path.{ap}
-use mathlib.Core.Bool.{not}
+use Rattle.device.specs.Step.{tick}
+use Rattle.buffer.proofs.Held.{was_held, call_refused, call_taken}
 use Rattle.buffer.proofs.calls.tick.Goals as goal
 
-pub returns-then-not-ready : goal.returns-then-not-ready
-returns-then-not-ready c = call_refused _ (was_not _ _ c.ready.ensures (ap not c.if-not-ready.true)) _
-
 pub ticked-requires : goal.ticked-requires
-ticked-requires c = was_held _ _ c.ready.ensures (ap not c.if-not-ready.false)
+ticked-requires c = was_held _ _ c.in-Some.ensures.cases
 
-pub returns : goal.returns
-returns c =
-    let r = c.ticked.ensures in call_taken _ (was_ready _ _ c.ready.ensures (ap not c.if-not-ready.false)) _ _ _ r.0 r.1
+pub returns-in-Some : goal.returns-in-Some
+returns-in-Some c =
+    let r = c.ticked.ensures in call_taken _ _ c.in-Some.ensures.cases (tick) _ _ r.answer r.left
+
+pub returns-in-None : goal.returns-in-None
+returns-in-None c = call_refused _ c.in-None.ensures.cases _

@@ -5,4 +5,5 @@ use Rattle.buffer.proofs.calls.ticked.Goals as goal
 
 pub returns : goal.returns
 returns c =
-    ticked-made _ c.requires _ c.load_unpaged-u.ensures _ _ c.tick_each.ensures c.save_unpaged.ensures
+    let r = ticked-made _ c.requires _ c.unpaged_of-u.ensures _ _ c.tick_each.ensures c.set_unpaged.ensures in
+    record { answer = r.0; left = r.1 }

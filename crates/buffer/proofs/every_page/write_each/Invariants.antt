@@ -1,14 +1,15 @@
 -- `buffer::every_page::write_each` meets its contract.
 -- Assumes nothing.
-use Prim.Native.Nat.{◌-◌}
+use Rattle.std.proofs.Common.{◌≡◌, ◌||◌, drop, map}
+use Rattle.laws.specs.Lists.{any_pair}
 use Rattle.page.specs.Status.{risen}
 use Rattle.writes.specs.Left.{page_left}
-use Rattle.buffer.proofs.Rules.{left-shape}
-use Rattle.buffer.proofs.Changing.{Changing}
+use Rattle.layout.specs.Layout.{pages_in}
+use Rattle.buffer.proofs.Changing.{Walked}
 use Rattle.buffer.proofs.every_page.write_each.Given as goal
 
 abbrev pub invariant-loop-i : goal.invariant-loop-i
-invariant-loop-i l = Changing (page_left l.w) (left-shape l.w) risen l.initial.s l.i l.k l.rose l.s
-
-abbrev pub decreases-loop-i : goal.decreases-loop-i
-decreases-loop-i l = 8 - l.i
+invariant-loop-i l =
+    Walked (λ i p q. q ≡ page_left l.w p) l.initial.s l.i l.s
+    × ((l.rose || any_pair risen (drop l.i (pages_in l.initial.s)) (map (page_left l.w) (drop l.i (pages_in l.initial.s))))
+    ≡ any_pair risen (pages_in l.initial.s) (map (page_left l.w) (pages_in l.initial.s)))

@@ -5,5 +5,4 @@ use Rattle.buffer.proofs.steps.reply.Goals as goal
 
 pub returns : goal.returns
 returns c =
-    reply-is _ c.requires _ _ _ _ c.load_unpaged-u.ensures c.shown-k.ensures
-    c.page_at-page.ensures c.reply.ensures
+    reply-is _ c.requires _ _ _ _ c.unpaged_of-u.ensures c.shown-k.ensures c.page_at-page.ensures (rw c.from-e.ensures at c.reply.ensures)

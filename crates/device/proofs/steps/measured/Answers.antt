@@ -1,8 +1,7 @@
 -- `device::steps::measured` meets its contract.
 -- Assumes nothing.
-use mathlib.Core.Path.{◌≡◌}
-use Prim.Native.Nat.{◌%◌}
-use native.Mathlib.Omega.{arith}
+use Rattle.std.proofs.Common.{◌≡◌, length, arith, rules}
+use Rattle.laws.proofs.Folds.{length-mapped}
 use Rattle.device.proofs.OnePage.{one_measured}
 use Rattle.device.proofs.steps.measured.Goals as goal
 
@@ -10,6 +9,6 @@ pub returns : goal.returns
 returns c =
     let a = c.args in
     let small = c.requires in
-    let same : a.page % 8 ≡ a.page = omega arith in
-    simp (c.risen-rose.ensures, c.settled-q.ensures, c.set_measurement-changed.ensures, same)
-    (one_measured a.d a.page a.quantity a.word small.1)
+    let long : length a.d.now.pages ≡ 8 = search (rules, length-mapped) in
+    simp (c.risen.ensures, c.settled-q.ensures, c.set_measurement-changed.ensures, c.from-k.ensures)
+    (one_measured a.d.now a.page _ a.word (omega (arith, long)))

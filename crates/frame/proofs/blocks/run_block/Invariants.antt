@@ -5,9 +5,9 @@ use lib.ListN.{length}
 use Rattle.frame.proofs.Running.{Running}
 use Rattle.frame.proofs.blocks.run_block.Given as goal
 
-abbrev pub invariant-loop-i : goal.invariant-loop-i
-invariant-loop-i l =
-    Running l.initial.e l.initial.line l.n l.block l.at l.initial.out l.line l.out l.e l.k l.i l.m
+abbrev pub invariant-loop-p : goal.invariant-loop-p
+invariant-loop-p l =
+    Running l.fn.d l.initial.line l.n l.block l.at l.initial.out l.line l.out l.p.device l.p.length l.p.next l.p.written
 
-abbrev pub decreases-loop-i : goal.decreases-loop-i
-decreases-loop-i l = length l.block - l.i
+abbrev pub decreases-loop-p : goal.decreases-loop-p
+decreases-loop-p l = length l.block - l.p.next

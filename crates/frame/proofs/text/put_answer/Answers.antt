@@ -1,20 +1,17 @@
--- `frame::text::put_answer` meets its contract.
+-- `frame::text::put_answer` meets its contract: the digits of the answer and of the bytes so far have been put.
 -- Assumes nothing.
-use mathlib.Core.Path.{◌≡◌}
 use native.Mathlib.Omega.{arith}
-use lib.ListN.{length, take}
-use lib.Seq.{length-take-le}
-use Rattle.frame.proofs.Lines.{answer-length, answer-stored}
-use borrow.Author.Rules.{rules}
+use lib.Seq.{take_all}
+use Rattle.frame.proofs.Lines.{answer-length, answer-stored, reply-step}
 use Rattle.frame.proofs.text.put_answer.Goals as goal
 
-pub returns : goal.returns
-returns c =
-    let a = c.args in
-    let h : length a.reply ≡ 255 = search rules in
-    let k : length (take a.n a.reply) ≡ a.n = length-take-le _ _ (omega arith) in
-    record {
-      value = omega (arith, answer-length a.out.now (take a.n a.reply) a.answer);
-      out_after = cc (answer-stored a.out.now (take a.n a.reply) a.answer);
-      upper_bound = omega arith;
-    }
+pub loop-i-preserved : goal.loop-i-preserved
+loop-i-preserved c = cc (reply-step c.args.answer c.args.reply.now c.args.out.now c.loop-i.i (omega arith))
+
+pub returns-clause-value : goal.returns-clause-value
+returns-clause-value c = answer-length c.args.answer c.args.reply.now
+
+pub returns-clause-out_after : goal.returns-clause-out_after
+returns-clause-out_after c =
+    let s = c.args.reply.now in
+    cc (take_all c.loop-i.i s (omega arith), answer-stored c.args.answer s c.args.out.now)

@@ -1,32 +1,18 @@
 -- `host::build::put_write` meets its contract.
 -- Assumes nothing.
-use mathlib.Core.Path.{◌≡◌, ap, ◌∙◌}
-use mathlib.Core.Bool.{Bool, true, false}
-use native.Mathlib.Omega.{arith}
-use lib.ListN.{length}
-use Rattle.replies.specs.Replies.{clocked_for}
-use Rattle.host.specs.Build.{write_frame}
-use Rattle.host.proofs.Frames.{frame_length}
+use Rattle.std.proofs.Common.{◌≡◌, length, arith}
+use Rattle.host.proofs.Places.{stored-more, checked-end}
 use Rattle.host.proofs.build.put_write.Goals as goal
 
-pub put_checked-requires : goal.put_checked-requires
-unfolding clocked_for
-put_checked-requires c =
+pub loop-i-preserved : goal.loop-i-preserved
+loop-i-preserved c =
     let a = c.args in
-    let e : length a.out.now ≡ length (write_frame a.code a.bytes.now true) =
-    c.requires ∙ ap (λ (b : Bool). length (write_frame a.code a.bytes.now b)) c.if-check.true in
-    e ∙ frame_length a.code a.bytes.now true ∙ omega arith
+    rw c.loop-i.invariant (stored-more a.out.now a.bytes.now a.code a.check c.requires c.loop-i.i c.loop-i-test.true)
 
 pub returns-then-check : goal.returns-then-check
-returns-then-check c = rw c.if-check.true c.put_checked.ensures
-
-pub put_plain-requires : goal.put_plain-requires
-unfolding clocked_for
-put_plain-requires c =
+returns-then-check c =
     let a = c.args in
-    let e : length a.out.now ≡ length (write_frame a.code a.bytes.now false) =
-    c.requires ∙ ap (λ (b : Bool). length (write_frame a.code a.bytes.now b)) c.if-check.false in
-    e ∙ frame_length a.code a.bytes.now false ∙ omega arith
-
-pub returns : goal.returns
-returns c = rw c.if-check.false c.put_plain.ensures
+    let h = rw c.if-check.true at c.requires in
+    let i : c.loop-i.i ≡ length a.bytes.now = omega arith in
+    let m = rw i at c.loop-i.invariant in
+    rw (c.if-check.true, m) (checked-end a.out.now a.bytes.now a.code c.pec.result h (rw m at c.pec.ensures))

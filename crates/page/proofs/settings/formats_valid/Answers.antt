@@ -1,28 +1,14 @@
 -- `page::settings::formats_valid` meets its contract.
 -- Assumes nothing.
+use mathlib.Core.Path.{◌∙◌}
 use borrow.Author.Rules.{rules}
-use Rattle.page.specs.Settings.{formats_valid}
-use Rattle.page.proofs.Written.{three}
+use borrow.Author.Tests.{tests}
+use Rattle.laws.proofs.Iterators.{all_of-iter}
+use Rattle.value.specs.Format.{format_valid}
+use Rattle.page.proofs.Written.{three_formats}
 use Rattle.page.proofs.settings.formats_valid.Goals as goal
 
-pub bounds-formats-0 : goal.bounds-formats-0
-bounds-formats-0 c = search rules
-
-pub bounds-formats-1 : goal.bounds-formats-1
-bounds-formats-1 c = search rules
-
-pub bounds-formats-2 : goal.bounds-formats-2
-bounds-formats-2 c = search rules
-
-pub format_valid-requires : goal.format_valid-requires
-format_valid-requires c = search rules
-
-pub format_valid-requires-2 : goal.format_valid-requires-2
-format_valid-requires-2 c = search rules
-
-pub format_valid-requires-3 : goal.format_valid-requires-3
-format_valid-requires-3 c = search rules
-
 pub returns : goal.returns
-unfolding formats_valid
-returns c = rw (← three) cc
+returns c =
+    all_of-iter format_valid c.args.formats _ _ _ c.all.ensures.ran (λ x q k. search (rules, tests)) (λ x q k. search (rules, tests)) (cc)
+    ∙ three_formats c.args.formats (search rules)

@@ -1,46 +1,22 @@
 -- `page::status::risen` meets its contract.
 -- Assumes nothing.
-use mathlib.Core.Path.{refl}
-use Rattle.page.specs.Status.{risen}
+use mathlib.Core.Path.{◌≡◌, refl, ◌∙◌}
+use mathlib.Core.Bool.{true, false, or-false, or_assoc}
+use mathlib.Core.List.{[], ◌∷◌}
+use Prim.Native.Nat.{ℕ}
+use lib.ListN.{get_or}
 use borrow.Author.Rules.{rules}
+use borrow.Author.Tests.{tests}
+use Rattle.std.proofs.lemmas.Iterator.{cases_from_any, YieldsList-from_range}
+use Rattle.laws.proofs.Iterators.{any_of-cases}
+use Rattle.page.specs.Status.{gains, risen}
 use Rattle.page.proofs.status.risen.Goals as goal
-
-pub bounds-p-0 : goal.bounds-p-0
-bounds-p-0 c = search rules
-
-pub bounds-q-0 : goal.bounds-q-0
-bounds-q-0 c = search rules
-
-pub bounds-p-0-2 : goal.bounds-p-0-2
-bounds-p-0-2 c = search rules
-
-pub bounds-p-1 : goal.bounds-p-1
-bounds-p-1 c = search rules
-
-pub bounds-q-1 : goal.bounds-q-1
-bounds-q-1 c = search rules
-
-pub bounds-p-1-2 : goal.bounds-p-1-2
-bounds-p-1-2 c = search rules
-
-pub bounds-p-2 : goal.bounds-p-2
-bounds-p-2 c = search rules
-
-pub bounds-q-2 : goal.bounds-q-2
-bounds-q-2 c = search rules
-
-pub bounds-p-2-2 : goal.bounds-p-2-2
-bounds-p-2-2 c = search rules
-
-pub bounds-p-3 : goal.bounds-p-3
-bounds-p-3 c = search rules
-
-pub bounds-q-3 : goal.bounds-q-3
-bounds-q-3 c = search rules
-
-pub bounds-p-3-2 : goal.bounds-p-3-2
-bounds-p-3-2 c = search rules
 
 pub returns : goal.returns
 unfolding risen
-returns c = refl
+returns c =
+    let p = λ (j : ℕ). gains (get_or c.args.p.status j 0) (get_or c.args.q.status j 0) in
+    any_of-cases p (0 ∷ 1 ∷ 2 ∷ 3 ∷ []) c.any.result
+    (cases_from_any _ _ c.any.result (λ j. p j ≡ true) (λ j. p j ≡ false) c.any.ensures.ran (YieldsList-from_range 0 4 4 refl refl)
+    (λ x q k. search (rules, tests)) (λ x q k. search (rules, tests)))
+    ∙ simp (or-false, or_assoc)

@@ -1,8 +1,0 @@
--- `host::parse::byte_at` meets its contract.
--- Assumes nothing.
-use mathlib.Core.Path.{sym}
-use lib.ListN.{get_or-eq_default}
-use Rattle.host.proofs.parse.byte_at.Goals as goal
-
-pub returns : goal.returns
-returns c = sym (get_or-eq_default c.args.s.now 0 {n = c.args.i} c.if-i-s.false)

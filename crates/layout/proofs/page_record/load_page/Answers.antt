@@ -1,8 +1,0 @@
--- `layout::page_record::load_page` meets its contract.
--- Assumes nothing.
-use Rattle.layout.specs.Layout.{page_form}
-use Rattle.layout.proofs.page_record.load_page.Goals as goal
-
-pub returns : goal.returns
-unfolding page_form
-returns c = cc

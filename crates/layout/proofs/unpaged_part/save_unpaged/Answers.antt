@@ -1,8 +1,0 @@
--- `layout::unpaged_part::save_unpaged` meets its contract.
--- Assumes nothing.
-use Rattle.layout.specs.Layout.{unpaged_form}
-use Rattle.layout.proofs.unpaged_part.save_unpaged.Goals as goal
-
-pub returns : goal.returns
-unfolding unpaged_form
-returns c = cc

@@ -1,9 +1,0 @@
--- `reads::data::one` meets its contract.
--- Assumes nothing.
-use Rattle.reads.specs.Reply.{stream}
-use borrow.Author.Rules.{rules}
-use Rattle.reads.proofs.data.one.Goals as goal
-
-pub returns : goal.returns
-unfolding stream
-returns c = search rules
