@@ -41,6 +41,7 @@ use Rattle.lent.specs.declared.turns.Sending.{Sending}
 use Rattle.lent.specs.Every.{swept, rising}
 use Rattle.lent.specs.Lent.{beside, outcome, refused_outcome, accepted_turn, write_turn, measure_turn, finished}
 use Rattle.lent.proofs.Taken.{put_back_lem, supplies-taken}
+use Rattle.lent.proofs.Judged.{judged_turn}
 use Rattle.lent.proofs.Outcomes.{write_done, measure_done, tick_done}
 use Rattle.records.specs.Records.{surveyed}
 use Rattle.stream.specs.Stream.{eight_valid}
@@ -288,7 +289,8 @@ module _ (s : List ℕ) (h : Held s) (u : Unpaged) (eu : u ≡ unpaged_form.get 
   written-beside =
       let same = same_device s h u eu in
       ap (λ (x : Outcome). beside x (pages_in n)) eo
-      ∙ write_done u (pages_in s) bytes p j t (pages_in m) (pages_in n) rose standing ep (ej ∙ ap (λ (d : Device). answered d (write bytes)) (sym same)) ew et
+      ∙ write_done u (pages_in s) bytes p (asked bytes) t (pages_in m) (pages_in n) rose standing ep (λ z. refl)
+      (et ∙ judged_turn u p j _ (asked bytes) (ej ∙ ap (λ (d : Device). answered d (write bytes)) (sym same)) ew)
       (ap pages_in m_is ∙ seen.back) er (ap pages_in en ∙ swept-in m (ap length m_is ∙ seen.long) t.every) es
       ∙ ap (λ (d : Device). (step d (write bytes)).done) same
 

@@ -7,7 +7,6 @@ use mathlib.Core.List.{List}
 use lib.ListN.{length, length-set}
 use Rattle.laws.proofs.Branches.{cond-apply, cond_same}
 use Rattle.cause.specs.Causes.{causes, warnings}
-use Rattle.cause.specs.Kinds.{limit_number, cause_number}
 use Rattle.retry.specs.Machines.{all_at_call, all_at_tick}
 use Rattle.page.specs.declared.Page.{Page}
 use Rattle.page.specs.Page.{resting, power_on_page}
@@ -63,7 +62,7 @@ module _ (p : Page) (h : Shape p) where
   }
   applied-shape (Setting.VoutCommand w) = record { limits = h.limits; responses = h.responses; machines = h.machines; words = h.words; measured = h.measured; status = h.status; formats = h.formats }
   applied-shape (Setting.Limit k w) = record {
-    limits = length-set p.limits (limit_number k % 11) w ∙ h.limits;
+    limits = length-set p.limits (k % 11) w ∙ h.limits;
     responses = h.responses;
     machines = h.machines;
     words = h.words;
@@ -73,8 +72,8 @@ module _ (p : Page) (h : Shape p) where
   }
   applied-shape (Setting.Response k x) = record {
     limits = h.limits;
-    responses = length-set p.responses (cause_number k % 6) x ∙ h.responses;
-    machines = length-set p.machines (cause_number k % 6) 0 ∙ h.machines;
+    responses = length-set p.responses (k % 6) x ∙ h.responses;
+    machines = length-set p.machines (k % 6) 0 ∙ h.machines;
     words = h.words;
     measured = h.measured;
     status = h.status;

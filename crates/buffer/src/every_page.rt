@@ -14,7 +14,7 @@ ghost use Rattle.layout.specs.Layout.{page_form, pages_in, pages_from, choices_i
 ghost use Rattle.buffer.specs.Private.{every_stored};
 
 use layout::choices::choice_at;
-use layout::pages::{load_page, set_page};
+use layout::pages::{any_status, load_page, set_page};
 use layout::{CHOICES, SIZE};
 use page::Page;
 use writes::Write;
@@ -24,7 +24,7 @@ fn find_bit(s: &[u8; SIZE]) -> bool
 {
     let mut found = false;
     for i in 0..8 {
-        found |= page::status::any_status(load_page(s, i));
+        found |= any_status(s, i);
     }
     found
 }
@@ -82,16 +82,28 @@ pub fn tick_each(s: &mut [u8; SIZE])
     each(s, |_, p| page::causes::ticked(p));
 }
 
+// Page i becomes of(i), whatever it was, for each of the eight.
+fn fill_each<F: Fn(u8) -> Page>(s: &mut [u8; SIZE], of: F)
+    requires { (i : ℕ) → i < 8 → F.pre of i }
+    ensures pages { (i : ℕ) → i < 8 → F.post of i (get_or (pages_in s.new) i no_page) }
+    ensures left { s.new ≡ store_all page_form s.old pages_from (pages_in s.new) }
+{
+    for i in 0..8 {
+        set_page(s, i, of(i));
+    }
+}
+
 // Every page as power-on leaves it.
 pub fn power_on_each(s: &mut [u8; SIZE])
     ensures { s.new ≡ store_all page_form s.old pages_from (replicate 8 power_on_page) }
 {
-    each(s, |_, _| page::power_on_page());
+    let p = page::power_on_page();
+    fill_each(s, |_| p);
 }
 
 // Every page as power-on leaves it by its choice.
 pub fn choose_each(s: &mut [u8; SIZE], choices: &[u8; CHOICES])
     ensures { s.new ≡ store_all page_form s.old pages_from (map chosen_page (choices_in choices.now)) }
 {
-    each(s, |i, _| page::chosen_page(choice_at(choices, i)));
+    fill_each(s, |i| page::chosen_page(choice_at(choices, i)));
 }

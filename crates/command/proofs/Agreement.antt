@@ -5,13 +5,13 @@ use mathlib.Core.Path.{◌≡◌, refl, sym, ap, ◌∙◌}
 use mathlib.Core.Bool.{Bool, false}
 use Rattle.laws.proofs.Every.{agree}
 use Rattle.command.specs.declared.meaning.Command.{Command}
-use Rattle.command.specs.declared.meaning.Command.TheVariants.{SelectPage, Operation, ClearFaults, WriteProtect, Capability, VoutMode, VoutCommand, StatusByte, StatusWord, StatusCml, ReadEin, Revision, Absent, Coefficients}
+use Rattle.command.specs.declared.meaning.Command.TheVariants.{SelectPage, Operation, ClearFaults, WriteProtect, Capability, VoutMode, VoutCommand, Limit, Response, StatusByte, StatusWord, Status, ReadEin, Reading, Revision, Absent, Coefficients}
 use Rattle.command.specs.Table.{Row, table, row_in, lookup, entry_of}
-use Rattle.command.specs.Meaning.{command_of, setting_of, fault_of, status_of, reading_of}
+use Rattle.command.specs.Meaning.{command_of, setting_of, fault_of, reading_of}
 use Rattle.command.specs.Agreement.{row_of, TableAgrees}
 
 rows : (c : ℕ) → c < 256 → row_in table c ≡ row_of c (command_of c)
-unfolding table row_of command_of setting_of fault_of status_of reading_of
+unfolding table row_of command_of setting_of fault_of reading_of
 rows c h = λ i. (codes i, access i, lengths i)
   where
     codes : (row_in table c).0 ≡ (row_of c (command_of c)).0
@@ -37,14 +37,13 @@ unused c WriteProtect h = cc
 unused c Capability h = cc
 unused c VoutMode h = cc
 unused c VoutCommand h = cc
-unused c (Command.Limit l) h = cc
-unused c (Command.Response k) h = cc
+unused c (Limit k) h = cc
+unused c (Response k) h = cc
 unused c StatusByte h = cc
 unused c StatusWord h = cc
-unused c (Command.Status r) h = cc
-unused c StatusCml h = cc
+unused c (Status k) h = cc
 unused c ReadEin h = cc
-unused c (Command.Reading q) h = cc
+unused c (Reading q) h = cc
 unused c Revision h = cc
 unused c Absent h = refl
 unused c Coefficients h = cc

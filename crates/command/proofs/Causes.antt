@@ -4,64 +4,43 @@ use Prim.Native.Nat.{ℕ, zero, suc, ◌<◌}
 use mathlib.Core.Path.{◌≡◌, refl, subst}
 use mathlib.Core.Bool.{Bool, true}
 use native.Mathlib.Omega.{arith}
-use lib.ListN.{get_or}
 use lib.Dec.{T, ltb, eqb, ltb→lt, eqb→eq}
 use Rattle.laws.proofs.Every.{both, both_left, both_right, each}
-use Rattle.cause.specs.declared.Quantity.{Quantity}
-use Rattle.cause.specs.declared.Cause.{Cause}
-use Rattle.cause.specs.declared.Limit.{Limit}
-use Rattle.cause.specs.declared.Register.{Register}
-use Rattle.cause.specs.Causes.{causes, warnings, limit_of, response_of, register, read_codes}
-use Rattle.cause.specs.Kinds.{quantity_number, cause_number, limit_number, register_number}
+use Rattle.cause.specs.Causes.{causes, warnings, limit_of, response_of}
 use Rattle.command.specs.declared.meaning.Command.{Command}
-use Rattle.command.specs.declared.meaning.Command.TheVariants.{SelectPage, Operation, ClearFaults, WriteProtect, Capability, VoutMode, VoutCommand, StatusByte, StatusWord, StatusCml, ReadEin, Revision, Absent, Coefficients}
-use Rattle.command.specs.Meaning.{command_of, setting_of, fault_of, status_of, reading_of}
-use Rattle.command.specs.Causes.{IsResponse, LineMeant, CausesAgree}
-
--- a line of a limit, a register and a quantity with its numbers
-line : (n : ℕ) (l : Limit) (r : Register) (q : Quantity)
-    → command_of (limit_of n).limit_code ≡ Command.Limit l
-    → limit_number l ≡ n
-    → command_of (limit_of n).status_code ≡ Command.Status r
-    → register_number r ≡ register (limit_of n)
-    → command_of (get_or read_codes (limit_of n).quantity 0) ≡ Command.Reading q
-    → quantity_number q ≡ (limit_of n).quantity
-    → LineMeant n
-line n l r q a b c d e f = record {
-  limit = record { limit = l; means = a; numbered = b };
-  status = record { register = r; means = c; numbered = d };
-  reading = record { quantity = q; means = e; numbered = f };
-}
+use Rattle.command.specs.declared.meaning.Command.TheVariants.{SelectPage, Operation, ClearFaults, WriteProtect, Capability, VoutMode, VoutCommand, Limit, Response, StatusByte, StatusWord, Status, ReadEin, Reading, Revision, Absent, Coefficients}
+use Rattle.command.specs.Meaning.{command_of, setting_of, fault_of, reading_of}
+use Rattle.command.specs.Causes.{LineMeant, CausesAgree}
 
 lines : (n : ℕ) → n < 11 → LineMeant n
-unfolding causes warnings command_of fault_of status_of reading_of
-lines zero h = line zero Limit.VoutOvFault Register.Vout Quantity.Vout refl refl refl refl refl refl
-lines (suc zero) h = line (suc zero) Limit.IoutOcFault Register.Iout Quantity.Iout refl refl refl refl refl refl
-lines (suc (suc zero)) h = line (suc (suc zero)) Limit.OtFault Register.Temperature Quantity.Temperature refl refl refl refl refl refl
-lines (suc (suc (suc zero))) h = line (suc (suc (suc zero))) Limit.UtFault Register.Temperature Quantity.Temperature refl refl refl refl refl refl
-lines (suc (suc (suc (suc zero)))) h = line (suc (suc (suc (suc zero)))) Limit.VinOvFault Register.Input Quantity.Vin refl refl refl refl refl refl
-lines (suc (suc (suc (suc (suc zero))))) h = line (suc (suc (suc (suc (suc zero))))) Limit.VinUvFault Register.Input Quantity.Vin refl refl refl refl refl refl
-lines (suc (suc (suc (suc (suc (suc zero)))))) h = line (suc (suc (suc (suc (suc (suc zero)))))) Limit.VoutOvWarn Register.Vout Quantity.Vout refl refl refl refl refl refl
-lines (suc (suc (suc (suc (suc (suc (suc zero))))))) h = line (suc (suc (suc (suc (suc (suc (suc zero))))))) Limit.IoutOcWarn Register.Iout Quantity.Iout refl refl refl refl refl refl
-lines (suc (suc (suc (suc (suc (suc (suc (suc zero)))))))) h = line (suc (suc (suc (suc (suc (suc (suc (suc zero)))))))) Limit.OtWarn Register.Temperature Quantity.Temperature refl refl refl refl refl refl
-lines (suc (suc (suc (suc (suc (suc (suc (suc (suc zero))))))))) h = line (suc (suc (suc (suc (suc (suc (suc (suc (suc zero))))))))) Limit.VinOvWarn Register.Input Quantity.Vin refl refl refl refl refl refl
-lines (suc (suc (suc (suc (suc (suc (suc (suc (suc (suc zero)))))))))) h = line (suc (suc (suc (suc (suc (suc (suc (suc (suc (suc zero)))))))))) Limit.VinUvWarn Register.Input Quantity.Vin refl refl refl refl refl refl
+unfolding causes warnings command_of fault_of reading_of
+lines zero h = record { limit = refl; status = refl; reading = refl }
+lines (suc zero) h = record { limit = refl; status = refl; reading = refl }
+lines (suc (suc zero)) h = record { limit = refl; status = refl; reading = refl }
+lines (suc (suc (suc zero))) h = record { limit = refl; status = refl; reading = refl }
+lines (suc (suc (suc (suc zero)))) h = record { limit = refl; status = refl; reading = refl }
+lines (suc (suc (suc (suc (suc zero))))) h = record { limit = refl; status = refl; reading = refl }
+lines (suc (suc (suc (suc (suc (suc zero)))))) h = record { limit = refl; status = refl; reading = refl }
+lines (suc (suc (suc (suc (suc (suc (suc zero))))))) h = record { limit = refl; status = refl; reading = refl }
+lines (suc (suc (suc (suc (suc (suc (suc (suc zero)))))))) h = record { limit = refl; status = refl; reading = refl }
+lines (suc (suc (suc (suc (suc (suc (suc (suc (suc zero))))))))) h = record { limit = refl; status = refl; reading = refl }
+lines (suc (suc (suc (suc (suc (suc (suc (suc (suc (suc zero)))))))))) h = record { limit = refl; status = refl; reading = refl }
 lines (suc (suc (suc (suc (suc (suc (suc (suc (suc (suc (suc n))))))))))) h = absurd (omega arith)
 
-responses-meant : (n : ℕ) → n < 6 → IsResponse n (command_of (response_of n).response_code)
+responses-meant : (n : ℕ) → n < 6 → command_of (response_of n).response_code ≡ Response n
 unfolding causes command_of fault_of
-responses-meant zero h = record { cause = Cause.VoutOv; means = refl; numbered = refl }
-responses-meant (suc zero) h = record { cause = Cause.IoutOc; means = refl; numbered = refl }
-responses-meant (suc (suc zero)) h = record { cause = Cause.Ot; means = refl; numbered = refl }
-responses-meant (suc (suc (suc zero))) h = record { cause = Cause.Ut; means = refl; numbered = refl }
-responses-meant (suc (suc (suc (suc zero)))) h = record { cause = Cause.VinOv; means = refl; numbered = refl }
-responses-meant (suc (suc (suc (suc (suc zero))))) h = record { cause = Cause.VinUv; means = refl; numbered = refl }
+responses-meant zero h = refl
+responses-meant (suc zero) h = refl
+responses-meant (suc (suc zero)) h = refl
+responses-meant (suc (suc (suc zero))) h = refl
+responses-meant (suc (suc (suc (suc zero)))) h = refl
+responses-meant (suc (suc (suc (suc (suc zero))))) h = refl
 responses-meant (suc (suc (suc (suc (suc (suc n)))))) h = absurd (omega arith)
 
 -- a command's number is a line's, and the code stands in that line
 abbrev in_table : ℕ → Command → Bool
-in_table c (Command.Limit l) = both (ltb (limit_number l) 11) (eqb c (limit_of (limit_number l)).limit_code)
-in_table c (Command.Response k) = both (ltb (cause_number k) 6) (eqb c (response_of (cause_number k)).response_code)
+in_table c (Limit n) = both (ltb n 11) (eqb c (limit_of n).limit_code)
+in_table c (Response n) = both (ltb n 6) (eqb c (response_of n).response_code)
 in_table c SelectPage = true
 in_table c Operation = true
 in_table c ClearFaults = true
@@ -71,16 +50,15 @@ in_table c VoutMode = true
 in_table c VoutCommand = true
 in_table c StatusByte = true
 in_table c StatusWord = true
-in_table c (Command.Status r) = true
-in_table c StatusCml = true
+in_table c (Status j) = true
 in_table c ReadEin = true
-in_table c (Command.Reading q) = true
+in_table c (Reading q) = true
 in_table c Revision = true
 in_table c Absent = true
 in_table c Coefficients = true
 
 codes : (c : ℕ) → c < 256 → T (in_table c (command_of c))
-unfolding causes warnings command_of setting_of fault_of status_of reading_of
+unfolding causes warnings command_of setting_of fault_of reading_of
 codes c h = each (λ c. in_table c (command_of c)) 256 tt c h
 
 in_line : (m n c code : ℕ) → T (both (ltb n m) (eqb c code)) → (n < m) × (c ≡ code)
@@ -92,7 +70,7 @@ causes-agree = (
   lines,
   responses-meant,
   λ c h. record {
-    limit = λ l e. in_line 11 (limit_number l) c (limit_of (limit_number l)).limit_code (subst (λ (k : Command). T (in_table c k)) e (codes c h));
-    response = λ k e. in_line 6 (cause_number k) c (response_of (cause_number k)).response_code (subst (λ (k : Command). T (in_table c k)) e (codes c h));
+    limit = λ n e. in_line 11 n c (limit_of n).limit_code (subst (λ (k : Command). T (in_table c k)) e (codes c h));
+    response = λ n e. in_line 6 n c (response_of n).response_code (subst (λ (k : Command). T (in_table c k)) e (codes c h));
   },
 )

@@ -1,28 +1,18 @@
 -- The codes 7Ah to 7Eh are the status registers that are written and read, and no other code is one.
 -- Assumes nothing.
 use Prim.Native.Nat.{ℕ, ◌-◌, ◌≤◌}
-use mathlib.Core.Path.{◌≡◌, refl, sym, ◌∙◌}
+use mathlib.Core.Path.{◌≡◌, sym, ◌∙◌}
 use mathlib.Core.Bool.{Bool, true, false, cond, ◌&&◌, and-eq-true_iff, false≢true}
 use native.Mathlib.Omega.{arith}
 use lib.Dec.{eqb, ltb, leb}
-use borrow.Author.Tests.{eqb-true, eqb-false, ltb-true, ltb-false, leb-true, le-leb}
+use borrow.Author.Tests.{eqb-false, ltb-true, ltb-false, leb-true, lt-ltb, le-ltb, le-leb, ne_eqb}
 use Rattle.laws.proofs.Branches.{either}
-use Rattle.cause.specs.declared.Register.{Register}
 use Rattle.command.specs.declared.meaning.Command.{Command}
-use Rattle.command.specs.declared.meaning.Command.TheVariants.{StatusByte, StatusWord, StatusCml, Absent}
-use Rattle.command.specs.Meaning.{command_of, setting_of, fault_of, status_of, reading_of}
+use Rattle.command.specs.declared.meaning.Command.TheVariants.{StatusByte, StatusWord, Status, Absent}
+use Rattle.command.specs.Meaning.{command_of, setting_of, fault_of, reading_of}
 
 abbrev pub is_status : ℕ → Bool
 is_status c = leb 0x7A c && leb c 0x7E
-
--- the command of the status register at a place from 7Ah on; 4 is STATUS_CML
-abbrev pub status_at : ℕ → Command
-status_at k =
-    cond (eqb k 0) (Command.Status Register.Vout)
-    (cond (eqb k 1) (Command.Status Register.Iout)
-    (cond (eqb k 2) (Command.Status Register.Input)
-    (cond (eqb k 3) (Command.Status Register.Temperature)
-    StatusCml)))
 
 -- the command of a code that is none of them
 unfoldable pub other_of : ℕ → Command
@@ -43,27 +33,26 @@ module _ (c : ℕ) where
       let b = (and-eq-true_iff (leb 0x7A c) (leb c 0x7E)).0 y in
       (leb-true 0x7A c b.0, leb-true c 0x7E b.1)
 
-  pub status_command : is_status c ≡ true → command_of c ≡ status_at (c - 0x7A)
-  unfolding command_of status_of
+  pub status_command : is_status c ≡ true → command_of c ≡ Status (c - 0x7A)
+  unfolding command_of
   status_command y =
       let b = status_bounds y in
-      either (eqb c 0x7A) (λ e. rw (eqb-true c 0x7A e) refl)
-      (λ n0. either (eqb c 0x7B) (λ e. rw (eqb-true c 0x7B e) refl)
-      (λ n1. either (eqb c 0x7C) (λ e. rw (eqb-true c 0x7C e) refl)
-      (λ n2. either (eqb c 0x7D) (λ e. rw (eqb-true c 0x7D e) refl)
-      (λ n3. let d0 = eqb-false c 0x7A n0 in
-      let d1 = eqb-false c 0x7B n1 in
-      let d2 = eqb-false c 0x7C n2 in
-      let d3 = eqb-false c 0x7D n3 in
-      let e : c ≡ 0x7E = omega arith in
-      rw e refl))))
+      rw (
+        le-ltb c 0x31 (omega arith),
+        le-ltb c 0x40 (omega arith),
+        le-ltb c 0x5B (omega arith),
+        le-ltb c 0x78 (omega arith),
+        ne_eqb c 0x78 (λ e. omega arith),
+        ne_eqb c 0x79 (λ e. omega arith),
+        lt-ltb c 0x7F (omega arith),
+      )
 
   pub other_command : is_status c ≡ false → command_of c ≡ other_of c
-  unfolding command_of other_of status_of
+  unfolding command_of other_of
   other_command n =
       either (ltb c 0x78) (λ e. rw e)
-      (λ a. either (eqb c 0x78) (λ e. rw (eqb-true c 0x78 e) refl)
-      (λ b. either (eqb c 0x79) (λ e. rw (eqb-true c 0x79 e) refl)
+      (λ a. either (eqb c 0x78) (λ e. rw (a, e))
+      (λ b. either (eqb c 0x79) (λ e. rw (a, b, e))
       (λ d. either (ltb c 0x7F)
       (λ l. let low = ltb-false c 0x78 a in
       let x = eqb-false c 0x78 b in

@@ -2,7 +2,7 @@
 -- Assumes nothing.
 use Rattle.std.specs.Prelude.{ℕ, ◌<◌, ◌≡◌, false}
 use Rattle.command.specs.declared.meaning.Command.{Command}
-use Rattle.command.specs.declared.meaning.Command.TheVariants.{SelectPage, Operation, ClearFaults, WriteProtect, Capability, VoutMode, VoutCommand, StatusByte, StatusWord, StatusCml, ReadEin, Revision, Absent, Coefficients}
+use Rattle.command.specs.declared.meaning.Command.TheVariants.{SelectPage, Operation, ClearFaults, WriteProtect, Capability, VoutMode, VoutCommand, Limit, Response, StatusByte, StatusWord, Status, ReadEin, Reading, Revision, Absent, Coefficients}
 use Rattle.command.specs.Table.{Row, table, row_in, lookup, NONE, R, W, RW, P}
 use Rattle.command.specs.Meaning.{command_of}
 
@@ -15,14 +15,13 @@ row_of c WriteProtect = (c, RW, 1)
 row_of c Capability = (c, R, 1)
 row_of c VoutMode = (c, R, 1)
 row_of c VoutCommand = (c, RW, 2)
-row_of c (Command.Limit l) = (c, RW, 2)
-row_of c (Command.Response k) = (c, RW, 1)
+row_of c (Limit k) = (c, RW, 2)
+row_of c (Response k) = (c, RW, 1)
 row_of c StatusByte = (c, R, 1)
 row_of c StatusWord = (c, R, 2)
-row_of c (Command.Status r) = (c, RW, 1)
-row_of c StatusCml = (c, RW, 1)
+row_of c (Status k) = (c, RW, 1)
 row_of c ReadEin = (c, R, 7)
-row_of c (Command.Reading q) = (c, R, 2)
+row_of c (Reading q) = (c, R, 2)
 row_of c Revision = (c, R, 1)
 row_of c Absent = (c, NONE, 0)
 row_of c Coefficients = (c, P, 3)

@@ -2,9 +2,8 @@
 -- Assumes nothing.
 use Rattle.std.specs.Prelude.{ℕ}
 use Rattle.cause.specs.Causes.{VOUT, limit_of}
-use Rattle.cause.specs.Kinds.{limit_number, quantity_number}
 use Rattle.command.specs.declared.meaning.Command.{Command}
-use Rattle.command.specs.declared.meaning.Command.TheVariants.{SelectPage, Operation, ClearFaults, WriteProtect, Capability, VoutMode, VoutCommand, StatusByte, StatusWord, StatusCml, ReadEin, Revision, Absent, Coefficients}
+use Rattle.command.specs.declared.meaning.Command.TheVariants.{SelectPage, Operation, ClearFaults, WriteProtect, Capability, VoutMode, VoutCommand, Limit, Response, StatusByte, StatusWord, Status, ReadEin, Reading, Revision, Absent, Coefficients}
 use Rattle.command.specs.Meaning.{command_of}
 
 -- past the four quantities: no value
@@ -20,14 +19,13 @@ carried WriteProtect = NO_VALUE
 carried Capability = NO_VALUE
 carried VoutMode = NO_VALUE
 carried VoutCommand = VOUT
-carried (Command.Limit l) = (limit_of (limit_number l)).quantity
-carried (Command.Response k) = NO_VALUE
+carried (Limit n) = (limit_of n).quantity
+carried (Response n) = NO_VALUE
 carried StatusByte = NO_VALUE
 carried StatusWord = NO_VALUE
-carried (Command.Status r) = NO_VALUE
-carried StatusCml = NO_VALUE
+carried (Status j) = NO_VALUE
 carried ReadEin = NO_VALUE
-carried (Command.Reading q) = quantity_number q
+carried (Reading q) = q
 carried Revision = NO_VALUE
 carried Absent = NO_VALUE
 carried Coefficients = NO_VALUE

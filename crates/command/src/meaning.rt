@@ -1,10 +1,13 @@
-// What a command code means: codes that are alike share a case, with the limit, the cause, the register or the quantity that they are
-// about.
+// What a command code means: codes that are alike share a case, with the number of the limit, the cause, the register or the quantity that
+// they are about.
 ghost use Rattle.std.specs.Prelude.{◌≡◌};
-ghost use Rattle.command.specs.Meaning.{command_of, setting_of, fault_of, status_of, reading_of};
+ghost use Rattle.command.specs.Meaning.{command_of, setting_of, fault_of, reading_of};
 
 use super::codes::*;
-use cause::{Cause, Limit, Quantity, Register};
+use cause::{Cause, Limit, Quantity};
+
+// The number of STATUS_CML among the status registers.
+pub const CML_REGISTER: u8 = STATUS_CML - STATUS_VOUT;
 
 // A code that the table lacks is a case here, and no None: whoever goes by the command treats it with those that are not written or not
 // read, and each arm for a code of the table would only gain a Some.
@@ -17,16 +20,16 @@ pub enum Command {
     Capability,
     VoutMode,
     VoutCommand,
-    Limit(Limit),
-    Response(Cause),
+    // a limit and a response by number, and not by name: what is promised of a command holds for every one (docs/PROMISES.md)
+    Limit(u8),
+    Response(u8),
     StatusByte,
     StatusWord,
-    // a status register, cleared by writing ones
-    Status(Register),
-    StatusCml,
+    // a status register, cleared by writing ones: those of a page by their numbers, and STATUS_CML behind them
+    Status(u8),
     ReadEin,
     // the latest word of a quantity
-    Reading(Quantity),
+    Reading(u8),
     Revision,
     Absent,
     Coefficients,
@@ -56,40 +59,23 @@ fn fault_of(code: u8) -> Command
     ensures { result ≡ fault_of code }
 {
     match code {
-        VOUT_OV_FAULT_LIMIT => Command::Limit(Limit::VoutOvFault),
-        VOUT_OV_FAULT_RESPONSE => Command::Response(Cause::VoutOv),
-        VOUT_OV_WARN_LIMIT => Command::Limit(Limit::VoutOvWarn),
-        IOUT_OC_FAULT_LIMIT => Command::Limit(Limit::IoutOcFault),
-        IOUT_OC_FAULT_RESPONSE => Command::Response(Cause::IoutOc),
-        IOUT_OC_WARN_LIMIT => Command::Limit(Limit::IoutOcWarn),
-        OT_FAULT_LIMIT => Command::Limit(Limit::OtFault),
-        OT_FAULT_RESPONSE => Command::Response(Cause::Ot),
-        OT_WARN_LIMIT => Command::Limit(Limit::OtWarn),
-        UT_FAULT_LIMIT => Command::Limit(Limit::UtFault),
-        UT_FAULT_RESPONSE => Command::Response(Cause::Ut),
-        VIN_OV_FAULT_LIMIT => Command::Limit(Limit::VinOvFault),
-        VIN_OV_FAULT_RESPONSE => Command::Response(Cause::VinOv),
-        VIN_OV_WARN_LIMIT => Command::Limit(Limit::VinOvWarn),
-        VIN_UV_WARN_LIMIT => Command::Limit(Limit::VinUvWarn),
-        VIN_UV_FAULT_LIMIT => Command::Limit(Limit::VinUvFault),
-        VIN_UV_FAULT_RESPONSE => Command::Response(Cause::VinUv),
-        _ => Command::Absent,
-    }
-}
-
-// 78h to 7Eh: the status registers
-#[tactic(auto, unfolding(crate::specs::Meaning::status_of))]
-fn status_of(code: u8) -> Command
-    ensures { result ≡ status_of code }
-{
-    match code {
-        STATUS_BYTE => Command::StatusByte,
-        STATUS_WORD => Command::StatusWord,
-        STATUS_VOUT => Command::Status(Register::Vout),
-        STATUS_IOUT => Command::Status(Register::Iout),
-        STATUS_INPUT => Command::Status(Register::Input),
-        STATUS_TEMPERATURE => Command::Status(Register::Temperature),
-        STATUS_CML => Command::StatusCml,
+        VOUT_OV_FAULT_LIMIT => Command::Limit(Limit::VoutOvFault as u8),
+        VOUT_OV_FAULT_RESPONSE => Command::Response(Cause::VoutOv as u8),
+        VOUT_OV_WARN_LIMIT => Command::Limit(Limit::VoutOvWarn as u8),
+        IOUT_OC_FAULT_LIMIT => Command::Limit(Limit::IoutOcFault as u8),
+        IOUT_OC_FAULT_RESPONSE => Command::Response(Cause::IoutOc as u8),
+        IOUT_OC_WARN_LIMIT => Command::Limit(Limit::IoutOcWarn as u8),
+        OT_FAULT_LIMIT => Command::Limit(Limit::OtFault as u8),
+        OT_FAULT_RESPONSE => Command::Response(Cause::Ot as u8),
+        OT_WARN_LIMIT => Command::Limit(Limit::OtWarn as u8),
+        UT_FAULT_LIMIT => Command::Limit(Limit::UtFault as u8),
+        UT_FAULT_RESPONSE => Command::Response(Cause::Ut as u8),
+        VIN_OV_FAULT_LIMIT => Command::Limit(Limit::VinOvFault as u8),
+        VIN_OV_FAULT_RESPONSE => Command::Response(Cause::VinOv as u8),
+        VIN_OV_WARN_LIMIT => Command::Limit(Limit::VinOvWarn as u8),
+        VIN_UV_WARN_LIMIT => Command::Limit(Limit::VinUvWarn as u8),
+        VIN_UV_FAULT_LIMIT => Command::Limit(Limit::VinUvFault as u8),
+        VIN_UV_FAULT_RESPONSE => Command::Response(Cause::VinUv as u8),
         _ => Command::Absent,
     }
 }
@@ -101,10 +87,10 @@ fn reading_of(code: u8) -> Command
 {
     match code {
         READ_EIN => Command::ReadEin,
-        READ_VIN => Command::Reading(Quantity::Vin),
-        READ_VOUT => Command::Reading(Quantity::Vout),
-        READ_IOUT => Command::Reading(Quantity::Iout),
-        READ_TEMPERATURE_1 => Command::Reading(Quantity::Temperature),
+        READ_VIN => Command::Reading(Quantity::Vin as u8),
+        READ_VOUT => Command::Reading(Quantity::Vout as u8),
+        READ_IOUT => Command::Reading(Quantity::Iout as u8),
+        READ_TEMPERATURE_1 => Command::Reading(Quantity::Temperature as u8),
         PMBUS_REVISION => Command::Revision,
         _ => Command::Absent,
     }
@@ -118,7 +104,9 @@ pub fn command_of(code: u8) -> Command
     match code {
         PAGE..=COEFFICIENTS => setting_of(code),
         VOUT_OV_FAULT_LIMIT..=VIN_UV_FAULT_RESPONSE => fault_of(code),
-        STATUS_BYTE..=STATUS_CML => status_of(code),
+        STATUS_BYTE => Command::StatusByte,
+        STATUS_WORD => Command::StatusWord,
+        STATUS_VOUT..=STATUS_CML => Command::Status(code - STATUS_VOUT),
         READ_EIN..=PMBUS_REVISION => reading_of(code),
         _ => Command::Absent,
     }

@@ -100,7 +100,7 @@ module _ (d : Device) where
   shown-of_any q v = get_or_default d.pages (shown d.unpaged) q no_page (shown-small v)
 
   -- a read that asks for r, of a page p that is the one shown where the state is valid: its answer,
-  module _ (header : List ℕ) (n a : ℕ) (r : Result Request Refusal) (p : Page) (asks : r ≡ request_of header) (is : device_valid d ≡ true → p ≡ page_shown d) where
+  module _ (header : List ℕ) (n a : ℕ) (r : Result Request ℕ) (p : Page) (asks : r ≡ request_of header) (is : device_valid d ≡ true → p ≡ page_shown d) where
     pub read_made : (valid : Bool) (rule : ℕ) → valid ≡ device_valid d → rule ≡ request_answer d.unpaged p r n → a ≡ cond valid rule 15
         → a ≡ answered d (read header n)
     unfolding answered answer_of read_answer

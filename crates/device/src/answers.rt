@@ -70,3 +70,14 @@ pub fn refuse(d: &mut Device, refusal: Refusal)
 {
     d.unpaged = unpaged::after(d.unpaged, refusal);
 }
+
+// The same of the number of an answer, whatever number it is, and of a state by value. The calls change theirs where it lies.
+#[tactic(auto, unfolding(crate::specs::Step::refused_device))]
+pub fn refused(d: Device, answer: u8) -> Device
+    ensures { result ≡ refused_device d answer }
+{
+    Device {
+        unpaged: unpaged::refused(d.unpaged, answer),
+        ..d
+    }
+}

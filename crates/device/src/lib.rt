@@ -97,19 +97,13 @@ pub fn read(mut d: Device, header: &[u8], reply: &mut [u8]) -> Done
     ensures reply_after { reply.new ≡ (step d (read header.now (length reply.old))).reply }
 {
     let p = steps::page_shown(&d);
-    let request = reads::request::request_of(header);
+    let request = reads::request::request_of(header).map_err(u8::from);
     let rule = reads::answers::request_answer(d.unpaged, p, request, reply.len());
-    let answer = answers::checked(answers::is_valid(&d), rule);
-    let number = answers::number(answer);
-    let stream = reads::data::read_stream(d.unpaged, p, number, request, header);
+    let answer = answers::answered(answers::is_valid(&d), rule);
+    let stream = reads::data::read_stream(d.unpaged, p, answer, request, header);
     reads::reply::send(reply, stream.as_slice());
-    if let Err(refusal) = answer {
-        answers::refuse(&mut d, refusal);
-    }
-    Done {
-        device: d,
-        answer: number,
-    }
+    d.unpaged = unpaged::refused(d.unpaged, answer);
+    Done { device: d, answer }
 }
 
 // The latest word of a quantity (0 VOUT, 1 IOUT, 2 VIN, 3 temperature: a number, as C gives it) on a page.

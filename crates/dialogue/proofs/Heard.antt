@@ -20,7 +20,7 @@ use Rattle.command.specs.Table.{Row, lookup, entry_of}
 use Rattle.command.specs.Meaning.{command_of, reading_of}
 use Rattle.command.specs.Agreement.{row_of, TableAgrees}
 use Rattle.command.specs.declared.meaning.Command.{Command}
-use Rattle.command.specs.declared.meaning.Command.TheVariants.{SelectPage, Operation, ClearFaults, WriteProtect, Capability, VoutMode, VoutCommand, Limit, Response, StatusByte, StatusWord, Status, StatusCml, ReadEin, Reading, Revision, Absent, Coefficients}
+use Rattle.command.specs.declared.meaning.Command.TheVariants.{SelectPage, Operation, ClearFaults, WriteProtect, Capability, VoutMode, VoutCommand, Limit, Response, StatusByte, StatusWord, Status, ReadEin, Reading, Revision, Absent, Coefficients}
 use Rattle.command.proofs.Agreement.{table-agrees}
 use Rattle.page.specs.declared.Page.{Page}
 use Rattle.page.specs.Causes.{weigh}
@@ -105,7 +105,6 @@ module _ (u : Unpaged) (p : Page) (c : ℕ) (rest : List ℕ) where
   again StatusByte r v = refl
   again StatusWord r v = word-again _ _ (status_lt p u.cml)
   again (Status k) r v = refl
-  again StatusCml r v = refl
   again ReadEin r v = ein_again u.energy rest v
   again (Reading q) r v = word-again _ _ (omega arith)
   again Revision r v = refl

@@ -17,7 +17,7 @@ use Rattle.command.specs.Meaning.{command_of}
 use Rattle.command.specs.Paged.{paged}
 use Rattle.command.specs.Agreement.{row_of, TableAgrees}
 use Rattle.command.specs.declared.meaning.Command.{Command}
-use Rattle.command.specs.declared.meaning.Command.TheVariants.{SelectPage, Operation, ClearFaults, WriteProtect, Capability, VoutMode, VoutCommand, Limit, Response, StatusByte, StatusWord, Status, StatusCml, ReadEin, Reading, Revision, Absent, Coefficients}
+use Rattle.command.specs.declared.meaning.Command.TheVariants.{SelectPage, Operation, ClearFaults, WriteProtect, Capability, VoutMode, VoutCommand, Limit, Response, StatusByte, StatusWord, Status, ReadEin, Reading, Revision, Absent, Coefficients}
 use Rattle.command.proofs.Agreement.{table-agrees}
 use Rattle.page.specs.declared.Page.{Page}
 use Rattle.unpaged.specs.declared.Unpaged.{Unpaged}
@@ -72,7 +72,6 @@ module _ (c : ℕ) (bytes more : List ℕ) where
   data_alone StatusByte e = refl
   data_alone StatusWord e = refl
   data_alone (Status k) e = one (λ x. write_of (Status k) x 0) e
-  data_alone StatusCml e = one (λ x. write_of StatusCml x 0) e
   data_alone ReadEin e = refl
   data_alone (Reading q) e = refl
   data_alone Revision e = refl

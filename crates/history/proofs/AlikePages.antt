@@ -12,8 +12,6 @@ use borrow.Author.Tests.{ltb-true, ltb-false}
 use Rattle.laws.specs.Bits.{bit}
 use Rattle.laws.specs.Lists.{any_of}
 use Rattle.laws.proofs.Branches.{either}
-use Rattle.cause.specs.declared.Limit.{Limit as NamedLimit}
-use Rattle.cause.specs.Kinds.{cause_number, limit_number}
 use Rattle.cause.specs.Causes.{Limit, causes, faults, warnings, register}
 use Rattle.retry.specs.Machines.{all_at_call, all_at_tick}
 use Rattle.page.specs.declared.Page.{Page}
@@ -182,7 +180,7 @@ applied-alike (Setting.VoutCommand w) p q a = record {
 applied-alike (Setting.Limit k w) p q a = record {
   operation = a.operation;
   command = a.command;
-  limits = take-set 6 p.limits q.limits (limit_number k % 11) w a.limits;
+  limits = take-set 6 p.limits q.limits (k % 11) w a.limits;
   responses = a.responses;
   machines = a.machines;
   words = a.words;
@@ -195,8 +193,8 @@ applied-alike (Setting.Response k x) p q a = record {
   operation = a.operation;
   command = a.command;
   limits = a.limits;
-  responses = ap (λ (l : List ℕ). set l (cause_number k % 6) x) a.responses;
-  machines = ap (λ (l : List ℕ). set l (cause_number k % 6) 0) a.machines;
+  responses = ap (λ (l : List ℕ). set l (k % 6) x) a.responses;
+  machines = ap (λ (l : List ℕ). set l (k % 6) 0) a.machines;
   words = a.words;
   measured = a.measured;
   bits = a.bits;
@@ -265,8 +263,8 @@ alike_self p = record {
   formats = refl;
 }
 
--- set on a page that is up to date: the limits 6 to 10
-pub warn_limit-alike : (k : NamedLimit) (w : ℕ) (p : Page) → 6 ≤ limit_number k → limit_number k < 11 → UpToDate p → AlikePages (page_left (Write.Change (Setting.Limit k w)) p) p
+-- set on a page that is up to date, with k from 6 to 10
+pub warn_limit-alike : (k w : ℕ) (p : Page) → 6 ≤ k → k < 11 → UpToDate p → AlikePages (page_left (Write.Change (Setting.Limit k w)) p) p
 unfolding page_left changed applied set_limit
 warn_limit-alike k w p low high g = current-alike (applied (Setting.Limit k w) p) p set-aside g
   where
@@ -274,7 +272,7 @@ warn_limit-alike k w p low high g = current-alike (applied (Setting.Limit k w) p
     set-aside = record {
       operation = refl;
       command = refl;
-      limits = take-set-le 6 p.limits (limit_number k % 11) w (omega arith);
+      limits = take-set-le 6 p.limits (k % 11) w (omega arith);
       responses = refl;
       machines = refl;
       words = refl;

@@ -1,10 +1,10 @@
--- What a write of each code clears and untrips: what `command_of` and `write_of` say of every code.
+-- What a write of each code clears and untrips, and that a response's number is below 6: what `command_of` and `write_of` say of every code.
 -- Assumes nothing.
 use Prim.Native.Nat.{ℕ, zero, suc, ◌+◌, ◌-◌, ◌%◌, ◌<◌, ◌≤◌}
 use mathlib.Core.Path.{◌≡◌, refl, sym, ap, ◌∙◌}
 use mathlib.Core.Bool.{Bool, true, false, ◌&&◌, ◌||◌, or-false, or-true, false≢true}
 use mathlib.Core.List.{[], ◌∷◌}
-use lib.Dec.{eqb}
+use lib.Dec.{ltb, eqb}
 use lib.ListN.{get_or}
 use native.Mathlib.Omega.{arith}
 use borrow.Author.Tests.{eqb-true, eqb-false, eq-eqb, ne_eqb, le-leb}
@@ -13,16 +13,15 @@ use Rattle.laws.proofs.Branches.{either, cond_same, cond-apply}
 use Rattle.laws.proofs.Bits.{cond-bit, zero_bit}
 use Rattle.laws.proofs.Every.{agree}
 use Rattle.cause.specs.Causes.{causes, warnings}
-use Rattle.cause.specs.Kinds.{cause_number}
 use Rattle.command.specs.declared.meaning.Command.{Command}
-use Rattle.command.specs.Meaning.{command_of, setting_of, fault_of, status_of, reading_of}
-use Rattle.command.proofs.StatusCodes.{is_status, status_at, other_of, status_bounds, status_command, other_command}
+use Rattle.command.specs.declared.meaning.Command.TheVariants.{Status}
+use Rattle.command.specs.Meaning.{command_of, setting_of, fault_of, reading_of}
+use Rattle.command.proofs.StatusCodes.{is_status, other_of, status_bounds, status_command, other_command}
 use Rattle.page.specs.Causes.{weigh}
 use Rattle.writes.specs.declared.asked.Setting.{Setting}
 use Rattle.writes.specs.declared.asked.Write.{Write}
 use Rattle.writes.specs.Asked.{page_masks, clear_faults, register_masks, clear_status, write_of}
 use Rattle.writes.specs.Left.{clearing}
-use Rattle.writes.proofs.StatusWritten.{status_written}
 use Rattle.history.specs.Clearing.{clears_page, clears_status_cml, reworks_alert}
 use Rattle.history.specs.Tripping.{untripping}
 use Rattle.history.specs.Retry.{resting}
@@ -44,7 +43,7 @@ cleared_cml (Write.Change s) k = false
 cleared_cml (Write.Clear m) k = bit m.cml k
 cleared_cml (Write.ClearCml m) k = bit m k
 
--- that it untrips, and
+-- that it untrips,
 abbrev pub switches_off : Setting → Bool
 switches_off (Setting.Operation x) = eqb x 0x00 || eqb x 0x40
 switches_off (Setting.VoutCommand w) = false
@@ -59,12 +58,12 @@ untrips_by (Write.Change s) = switches_off s
 untrips_by (Write.Clear m) = false
 untrips_by (Write.ClearCml m) = false
 
--- the machines that it puts to rest
+-- the machines that it puts to rest,
 abbrev pub rests_setting : Setting → ℕ → Bool
 rests_setting (Setting.Operation x) k = eqb x 0x00 || eqb x 0x40
 rests_setting (Setting.VoutCommand w) k = false
 rests_setting (Setting.Limit m w) k = false
-rests_setting (Setting.Response m x) k = eqb k (cause_number m % 6)
+rests_setting (Setting.Response m x) k = eqb k (m % 6)
 
 abbrev pub rests_by : Write → ℕ → Bool
 rests_by Write.Nothing k = false
@@ -73,6 +72,21 @@ rests_by (Write.Protect x) k = false
 rests_by (Write.Change s) k = rests_setting s k
 rests_by (Write.Clear m) k = false
 rests_by (Write.ClearCml m) k = false
+
+-- and that a response which it sets is one of six
+abbrev pub small_setting : Setting → Bool
+small_setting (Setting.Operation x) = true
+small_setting (Setting.VoutCommand w) = true
+small_setting (Setting.Limit k w) = true
+small_setting (Setting.Response k x) = ltb k 6
+
+abbrev pub small_response : Write → Bool
+small_response Write.Nothing = true
+small_response (Write.SelectPage x) = true
+small_response (Write.Protect x) = true
+small_response (Write.Change s) = small_setting s
+small_response (Write.Clear m) = true
+small_response (Write.ClearCml m) = true
 
 -- the masks of CLEAR_FAULTS
 every_register : (j : ℕ) → j < 4 → ◌≡◌ {A = ℕ} (get_or (255 ∷ 255 ∷ 255 ∷ 255 ∷ []) j 0) 255
@@ -104,9 +118,9 @@ module _ (m x : ℕ) where
   unfolding clear_status register_masks
   status_cml k = either (eqb m 4) (λ y. rw y) (λ n. rw n (zero_bit k))
 
-  status_kind : (clearing (clear_status m x) ≡ true) × (untrips_by (clear_status m x) ≡ false)
+  status_kind : (clearing (clear_status m x) ≡ true) × (untrips_by (clear_status m x) ≡ false) × (small_response (clear_status m x) ≡ true)
   unfolding clear_status clearing
-  status_kind = either (eqb m 4) (λ y. rw y (refl, refl)) (λ n. rw n (refl, refl))
+  status_kind = either (eqb m 4) (λ y. rw y (refl, refl, refl)) (λ n. rw n (refl, refl, refl))
 
   status_rests : (k : ℕ) → rests_by (clear_status m x) k ≡ false
   unfolding clear_status
@@ -120,22 +134,18 @@ place code j h =
     (λ n. let e = eqb-false code (0x7A + j) n in ne_eqb (code - 0x7A) j (λ z. omega arith) ∙ sym n)
 
 module _ (code x w : ℕ) where
-  -- the write of a status register's code
-  register-write : is_status code ≡ true → write_of (status_at (code - 0x7A)) x w ≡ clear_status (code - 0x7A) x
-  register-write y = let b = status_bounds code y in status_written (code - 0x7A) x w (omega arith)
-
   -- a fact of a code is one of the status registers 7Ah to 7Eh, or one of every other code
-  by_register : (F : Command → Bool) (r : Bool) → (is_status code ≡ true → F (status_at (code - 0x7A)) ≡ r) → (is_status code ≡ false → F (other_of code) ≡ r)
+  by_register : (F : Command → Bool) (r : Bool) → (is_status code ≡ true → F (Status (code - 0x7A)) ≡ r) → (is_status code ≡ false → F (other_of code) ≡ r)
       → F (command_of code) ≡ r
   by_register F r f g =
       either (is_status code) (λ y. ap F (status_command code y) ∙ f y) (λ n. ap F (other_command code n) ∙ g n)
 
   pub cleared-code : (j k : ℕ) → j < 4 → cleared_bit (write_of (command_of code) x w) j k ≡ clears_page code x j k
-  unfolding other_of setting_of fault_of status_of reading_of write_of clear_faults clears_page
+  unfolding other_of setting_of fault_of reading_of write_of clear_faults clears_page
   cleared-code j k h =
       by_register (λ c. cleared_bit (write_of c x w) j k) (clears_page code x j k)
       (λ y. let b = status_bounds code y in
-      ap (λ (v : Write). cleared_bit v j k) (register-write y) ∙ status_bit_lem (code - 0x7A) x j k h ∙ rw (place code j b.0, ne_eqb code 0x03 (λ e. omega arith)))
+      status_bit_lem (code - 0x7A) x j k h ∙ rw (place code j b.0, ne_eqb code 0x03 (λ e. omega arith)))
       (λ n. either (eqb code 0x03)
       (λ e. let same = eqb-true code 0x03 e in
       rw (same, ne_eqb 0x03 (0x7A + j) (λ z. omega arith)) (ap (λ (m : ℕ). bit m k) (every_register j h) ∙ sym (or-false (bit 0xFF k))))
@@ -145,27 +155,32 @@ module _ (code x w : ℕ) where
       not_status n j h e = false≢true (sym n ∙ rw (le-leb 0x7A code (omega arith), le-leb code 0x7E (omega arith)))
 
   pub cleared-cml_code : (k : ℕ) → cleared_cml (write_of (command_of code) x w) k ≡ clears_status_cml code x k
-  unfolding other_of setting_of fault_of status_of reading_of write_of clear_faults clears_status_cml
+  unfolding other_of setting_of fault_of reading_of write_of clear_faults clears_status_cml
   cleared-cml_code k =
       by_register (λ c. cleared_cml (write_of c x w) k) (clears_status_cml code x k)
       (λ y. let b = status_bounds code y in
-      ap (λ (v : Write). cleared_cml v k) (register-write y) ∙ status_cml (code - 0x7A) x k ∙ rw (place code 4 b.0, ne_eqb code 0x03 (λ e. omega arith)))
+      status_cml (code - 0x7A) x k ∙ rw (place code 4 b.0, ne_eqb code 0x03 (λ e. omega arith)))
       (λ n. either (eqb code 0x03) (λ e. rw (eqb-true code 0x03 e) (sym (or-false (bit 0xFF k))))
       (λ e. rw (e, ne_eqb code 0x7E (λ z. false≢true (sym n ∙ rw z))) (simp (cond-apply (λ c. cleared_cml (write_of c x w) k), cond_same))))
 
   pub clearing-code : clearing (write_of (command_of code) x w) ≡ reworks_alert code
-  unfolding other_of setting_of fault_of status_of reading_of write_of clear_faults reworks_alert clearing
+  unfolding other_of setting_of fault_of reading_of write_of clear_faults reworks_alert clearing
   clearing-code =
-      by_register (λ c. clearing (write_of c x w)) (reworks_alert code) (λ y. ap clearing (register-write y) ∙ (status_kind (code - 0x7A) x).0 ∙ rw (y, or-true (eqb code 0x03)))
+      by_register (λ c. clearing (write_of c x w)) (reworks_alert code) (λ y. (status_kind (code - 0x7A) x).0 ∙ rw (y, or-true (eqb code 0x03)))
       (λ n. either (eqb code 0x03) (λ e. rw (eqb-true code 0x03 e))
       (λ e. rw (e, n) (simp (cond-apply (λ c. clearing (write_of c x w)), cond_same))))
 
   pub untripping-code : untrips_by (write_of (command_of code) x w) ≡ untripping code x
-  unfolding other_of setting_of fault_of status_of reading_of write_of clear_faults
+  unfolding other_of setting_of fault_of reading_of write_of clear_faults
   untripping-code =
       by_register (λ c. untrips_by (write_of c x w)) (untripping code x)
-      (λ y. let b = status_bounds code y in ap untrips_by (register-write y) ∙ (status_kind (code - 0x7A) x).1 ∙ rw (ne_eqb code 0x01 (λ e. omega arith)))
+      (λ y. let b = status_bounds code y in (status_kind (code - 0x7A) x).1 ∙ rw (ne_eqb code 0x01 (λ e. omega arith)))
       (λ n. either (eqb code 0x01) (λ e. rw (eqb-true code 0x01 e)) (λ e. simp (e, cond-apply (λ c. untrips_by (write_of c x w)), cond_same)))
+
+  pub response-code : small_response (write_of (command_of code) x w) ≡ true
+  unfolding other_of setting_of fault_of reading_of write_of clear_faults
+  response-code =
+      by_register (λ c. small_response (write_of c x w)) true (λ y. (status_kind (code - 0x7A) x).2) (λ n. simp (cond-apply (λ c. small_response (write_of c x w)), cond_same))
 
   -- which machines are put to rest: each by OPERATION, and by the code of its response
   module _ (k r : ℕ) (of : (code : ℕ) → resting k code x ≡ (untripping code x || eqb code r)) (low : 0x40 ≤ r) (high : r < 0x5B) where
@@ -176,7 +191,7 @@ module _ (code x w : ℕ) where
     rests-by own other =
         by_register (λ c. rests_by (write_of c x w) k) (resting k code x)
         (λ y. let b = status_bounds code y in
-        ap (λ (v : Write). rests_by v k) (register-write y) ∙ status_rests (code - 0x7A) x k ∙ sym (of code ∙ rw (ne_eqb code 0x01 (λ e. omega arith), ne_eqb code r (λ e. omega arith))))
+        status_rests (code - 0x7A) x k ∙ sym (of code ∙ rw (ne_eqb code 0x01 (λ e. omega arith), ne_eqb code r (λ e. omega arith))))
         (λ n. either (eqb code 0x01)
         (λ e. let same = eqb-true code 0x01 e in
         rw (of code, same, ne_eqb 0x01 r (λ z. omega arith)) (sym (or-false (eqb x 0x00 || eqb x 0x40))))
@@ -186,37 +201,37 @@ module _ (code x w : ℕ) where
   rests-at k r = rests_by (write_of (command_of code) x w) k ≡ resting k code x
 
   rests-0 : rests-at 0 0x41
-  unfolding rests-at resting causes warnings other_of setting_of fault_of status_of reading_of write_of clear_faults
+  unfolding rests-at resting causes warnings other_of setting_of fault_of reading_of write_of clear_faults
   rests-0 =
       rests-by 0 0x41 (λ c. refl) (omega arith) (omega arith) (λ y n. rw (eqb-true code 0x41 y))
       (λ a e n. simp (a, e, cond-apply (λ c. rests_by (write_of c x w) 0), cond_same))
 
   rests-1 : rests-at 1 0x47
-  unfolding rests-at resting causes warnings other_of setting_of fault_of status_of reading_of write_of clear_faults
+  unfolding rests-at resting causes warnings other_of setting_of fault_of reading_of write_of clear_faults
   rests-1 =
       rests-by 1 0x47 (λ c. refl) (omega arith) (omega arith) (λ y n. rw (eqb-true code 0x47 y))
       (λ a e n. simp (a, e, cond-apply (λ c. rests_by (write_of c x w) 1), cond_same))
 
   rests-2 : rests-at 2 0x50
-  unfolding rests-at resting causes warnings other_of setting_of fault_of status_of reading_of write_of clear_faults
+  unfolding rests-at resting causes warnings other_of setting_of fault_of reading_of write_of clear_faults
   rests-2 =
       rests-by 2 0x50 (λ c. refl) (omega arith) (omega arith) (λ y n. rw (eqb-true code 0x50 y))
       (λ a e n. simp (a, e, cond-apply (λ c. rests_by (write_of c x w) 2), cond_same))
 
   rests-3 : rests-at 3 0x54
-  unfolding rests-at resting causes warnings other_of setting_of fault_of status_of reading_of write_of clear_faults
+  unfolding rests-at resting causes warnings other_of setting_of fault_of reading_of write_of clear_faults
   rests-3 =
       rests-by 3 0x54 (λ c. refl) (omega arith) (omega arith) (λ y n. rw (eqb-true code 0x54 y))
       (λ a e n. simp (a, e, cond-apply (λ c. rests_by (write_of c x w) 3), cond_same))
 
   rests-4 : rests-at 4 0x56
-  unfolding rests-at resting causes warnings other_of setting_of fault_of status_of reading_of write_of clear_faults
+  unfolding rests-at resting causes warnings other_of setting_of fault_of reading_of write_of clear_faults
   rests-4 =
       rests-by 4 0x56 (λ c. refl) (omega arith) (omega arith) (λ y n. rw (eqb-true code 0x56 y))
       (λ a e n. simp (a, e, cond-apply (λ c. rests_by (write_of c x w) 4), cond_same))
 
   rests-5 : rests-at 5 0x5A
-  unfolding rests-at resting causes warnings other_of setting_of fault_of status_of reading_of write_of clear_faults
+  unfolding rests-at resting causes warnings other_of setting_of fault_of reading_of write_of clear_faults
   rests-5 =
       rests-by 5 0x5A (λ c. refl) (omega arith) (omega arith) (λ y n. rw (eqb-true code 0x5A y))
       (λ a e n. simp (a, e, cond-apply (λ c. rests_by (write_of c x w) 5), cond_same))

@@ -11,7 +11,7 @@ use lib.Seq.{get_or-set_other}
 use borrow.Author.Tests.{eqb-true, eq-eqb, ne_eqb, ltb-false, ltb-true, leb-false}
 use Rattle.laws.proofs.Branches.{either, cond_same, cond-apply}
 use Rattle.laws.proofs.Places.{get_or-map_at, map-kept, map-past}
-use Rattle.command.specs.Meaning.{command_of, setting_of, fault_of, status_of, reading_of}
+use Rattle.command.specs.Meaning.{command_of, setting_of, fault_of, reading_of}
 use Rattle.page.specs.declared.Page.{Page}
 use Rattle.page.specs.Page.{no_page}
 use Rattle.page.specs.Causes.{moved, settled, ticked}
@@ -150,13 +150,13 @@ module _ (u : Unpaged) (m x : ℕ) where
 -- PAGE and WRITE_PROTECT after a write of each code
 module _ (u : Unpaged) (code x w : ℕ) where
   pub page-code : (unpaged_left (write_of (command_of code) x w) u).page ≡ cond (eqb code 0x00) x u.page
-  unfolding command_of setting_of fault_of status_of reading_of write_of clear_faults unpaged_left
+  unfolding command_of setting_of fault_of reading_of write_of clear_faults unpaged_left
   page-code =
       either (eqb code 0x00) (λ e. rw (eqb-true code 0x00 e))
       (λ e. simp (e, cond-apply (λ c. (unpaged_left (write_of c x w) u).page), status_page u, cond_same))
 
   pub protect_code : (unpaged_left (write_of (command_of code) x w) u).protect ≡ cond (eqb code 0x10) x u.protect
-  unfolding command_of setting_of fault_of status_of reading_of write_of clear_faults unpaged_left
+  unfolding command_of setting_of fault_of reading_of write_of clear_faults unpaged_left
   protect_code =
       either (eqb code 0x10) (λ e. rw (eqb-true code 0x10 e))
       (λ e. simp (e, cond-apply (λ c. (unpaged_left (write_of c x w) u).protect), status_protect u, cond_same))

@@ -12,7 +12,7 @@ use Rattle.laws.proofs.Every.{agree-test}
 use Rattle.laws.proofs.Places.{get_or-map_at}
 use Rattle.account.specs.Account.{ein_bytes}
 use Rattle.command.specs.Table.{table, entry_of, lookup}
-use Rattle.command.specs.Meaning.{command_of, setting_of, fault_of, status_of, reading_of}
+use Rattle.command.specs.Meaning.{command_of, setting_of, fault_of, reading_of}
 use Rattle.command.specs.Paged.{paged}
 use Rattle.page.specs.declared.Page.{Page}
 use Rattle.page.specs.Page.{no_page}
@@ -96,7 +96,7 @@ first_of p c = get_or (read_data power_on_unpaged p (command_of c)) 0 0
 -- the first data bytes differ where a code is read and not listed
 differs : (c : ℕ) → c < 256 → ((lookup c).read && not (is_in c unpaged_codes)) ≡ not (eqb (first_of (filled 0 false) c) (first_of (filled 1 true) c))
 unfolding
-    lookup entry_of table command_of setting_of fault_of status_of reading_of read_data status_register reading status_byte supplies weigh power_on_unpaged
+    lookup entry_of table command_of setting_of fault_of reading_of read_data status_register reading status_byte supplies weigh power_on_unpaged
     ein_bytes
 differs c h =
     agree-test (λ c. (lookup c).read && not (is_in c unpaged_codes)) (λ c. not (eqb (first_of (filled 0 false) c) (first_of (filled 1 true) c))) 256 tt c h
@@ -107,7 +107,7 @@ is_listed c h = agree-test paged (λ c. not (is_in c unpaged_codes)) 256 tt c h
 
 -- a listed code looks at no page
 same_data : (c : ℕ) → is_in c unpaged_codes ≡ true → (u : Unpaged) (p q : Page) → read_data u p (command_of c) ≡ read_data u q (command_of c)
-unfolding command_of setting_of status_of reading_of read_data status_register
+unfolding command_of setting_of reading_of read_data status_register
 same_data c h u p q =
     either (eqb c 0x00) (λ e. rw (eqb-true c 0x00 e))
     (λ a. either (eqb c 0x10) (λ e. rw (eqb-true c 0x10 e))

@@ -21,8 +21,6 @@ use Rattle.retry.specs.Machine.{hold, look, started, less_one, at_call, at_tick}
 use Rattle.retry.specs.Byte.{byte_of, machine_of, byte_at_call, byte_at_tick}
 use Rattle.retry.specs.Machines.{all_at_call, all_at_tick}
 use Rattle.retry.proofs.Values.{response_to, response-byte}
-use Rattle.cause.specs.declared.Cause.{Cause}
-use Rattle.cause.specs.Kinds.{cause_number}
 use Rattle.cause.specs.Causes.{causes, warnings}
 use Rattle.command.specs.Table.{table, entry_of, lookup}
 use Rattle.command.specs.Meaning.{setting_of, fault_of, command_of}
@@ -86,19 +84,10 @@ selects i = refl
 abbrev responding : ℕ → ℕ → List ℕ
 responding k r = 0xC0 ∷ get_or response_codes k 0 ∷ r ∷ []
 
--- the cause with the number k, below 6
-abbrev cause_at : ℕ → Cause
-cause_at zero = Cause.VoutOv
-cause_at (suc zero) = Cause.IoutOc
-cause_at (suc (suc zero)) = Cause.Ot
-cause_at (suc (suc (suc zero))) = Cause.Ut
-cause_at (suc (suc (suc (suc zero)))) = Cause.VinOv
-cause_at (suc (suc (suc (suc (suc k))))) = Cause.VinUv
-
 -- cause k has a machine
 record Machined (k : ℕ) : Type 0 where
-  asks : (r : ℕ) → asked (responding k r) ≡ Write.Change (Setting.Response (cause_at k) r)
-  valid : (r : ℕ) → valid_response (cause_number (cause_at k)) r ≡ true
+  asks : (r : ℕ) → asked (responding k r) ≡ Write.Change (Setting.Response k r)
+  valid : (r : ℕ) → valid_response k r ≡ true
   marked : (lookup (get_or response_codes k 0)).written ≡ true
   long : (lookup (get_or response_codes k 0)).length ≡ 1
   measures : ltb 3 (get_or quantities k 0) ≡ false
@@ -118,7 +107,7 @@ machined (suc (suc (suc (suc (suc (suc k)))))) h m = absurd (omega arith)
 -- ---- the page, computed
 
 unfoldable page_to : ℕ → ℕ → Page
-page_to k r = settled (set_measurement (changed (Setting.Response (cause_at k) r) power_on_page) (get_or quantities k 0) (get_or past_limits k 0))
+page_to k r = settled (set_measurement (changed (Setting.Response k r) power_on_page) (get_or quantities k 0) (get_or past_limits k 0))
 
 unfoldable ticked_to : ℕ → Bool
 ticked_to b = eqb (b % 8) 0
@@ -180,7 +169,7 @@ module _ (d : Device) (i : ℕ) (v : device_valid d ≡ true) (small : i < lengt
       )
 
   module _ (k r : ℕ) (some : Machined k) where
-    response-valid : valid_write (length d.pages) (Write.Change (Setting.Response (cause_at k) r)) ≡ true
+    response-valid : valid_write (length d.pages) (Write.Change (Setting.Response k r)) ≡ true
     unfolding valid_write valid_setting
     response-valid = some.valid r
 
@@ -195,7 +184,7 @@ module _ (d : Device) (i : ℕ) (v : device_valid d ≡ true) (small : i < lengt
         })
 
     response-left : d.unpaged.page ≡ i → answer d (write (responding k r)) ≡ 0
-        → page_of (next d (write (responding k r))) i ≡ changed (Setting.Response (cause_at k) r) (page_of d i)
+        → page_of (next d (write (responding k r))) i ≡ changed (Setting.Response k r) (page_of d i)
     unfolding page_left acts_on
     response-left e z = written_at d i small (responding k r) z ∙ rw (some.asks r, e, eq-eqb i i refl)
 
@@ -239,13 +228,13 @@ module _ (n i k r : ℕ) (sup : supported n ≡ true) (hi : i < n) (some : Machi
         p.2 ∙ e,
       )
 
-  after-response : page_of (reached (usual n) responded) i ≡ changed (Setting.Response (cause_at k) r) power_on_page
+  after-response : page_of (reached (usual n) responded) i ≡ changed (Setting.Response k r) power_on_page
   unfolding run
   after-response =
       let d = reached (usual n) selected in
       response-left d i (valid selected) (small selected) k r some after-page.1
       (response-accepted d i (valid selected) (small selected) k r some after-page.2)
-      ∙ ap (changed (Setting.Response (cause_at k) r)) after-page.0
+      ∙ ap (changed (Setting.Response k r)) after-page.0
 
   after-measurement : page_of (reached (usual n) measured) i ≡ page_to k r
   unfolding run page_to

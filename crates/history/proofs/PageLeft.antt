@@ -10,7 +10,6 @@ use lib.Seq.{get_or-set_other}
 use borrow.Author.Tests.{eqb-true, eqb-false}
 use Rattle.laws.specs.Bits.{bit}
 use Rattle.laws.proofs.Branches.{either}
-use Rattle.cause.specs.Kinds.{cause_number, limit_number}
 use Rattle.retry.proofs.Side.{rest_same}
 use Rattle.page.specs.declared.Page.{Page}
 use Rattle.page.specs.Page.{resting}
@@ -100,8 +99,8 @@ module _ (p : Page) where
   unfolding applied set_vout_command set_limit
   changed-setting (Setting.Operation x) = operated x
   changed-setting (Setting.VoutCommand w) = plain p (set_vout_command p w) refl refl refl refl (λ g. command_ready p g w) refl
-  changed-setting (Setting.Limit l w) = let k = limit_number l in plain p (set_limit p k w) refl refl refl refl (λ g. limit-ready p g k w) refl
-  changed-setting (Setting.Response k x) = responded (cause_number k) x
+  changed-setting (Setting.Limit k w) = plain p (set_limit p k w) refl refl refl refl (λ g. limit-ready p g k w) refl
+  changed-setting (Setting.Response k x) = responded k x
 
   cleared-bits : (ms : List ℕ) → Changed p (clear_bits p ms) (λ j k. bit (get_or ms j 0) k) false (λ k. false)
   unfolding clear_bits

@@ -12,7 +12,7 @@ use Rattle.laws.proofs.Every.{each, agree-test}
 use Rattle.account.specs.Account.{ein_bytes}
 use Rattle.cause.specs.Causes.{causes, warnings}
 use Rattle.command.specs.Table.{table, entry_of, lookup}
-use Rattle.command.specs.Meaning.{command_of, setting_of, fault_of, status_of, reading_of}
+use Rattle.command.specs.Meaning.{command_of, setting_of, fault_of, reading_of}
 use Rattle.command.specs.Paged.{paged}
 use Rattle.page.specs.declared.Page.{Page}
 use Rattle.page.specs.Page.{power_on_page, no_page}
@@ -41,7 +41,7 @@ read_of r = read_data power_on_unpaged power_on_page (command_of r.0)
 
 every_row : map read_of at_power_on ≡ map (λ r. r.1) at_power_on
 unfolding
-    read_data status_register reading status_byte status_high supplies weigh ein_bytes command_of setting_of fault_of status_of reading_of power_on_page power_on_unpaged
+    read_data status_register reading status_byte status_high supplies weigh ein_bytes command_of setting_of fault_of reading_of power_on_page power_on_unpaged
     causes warnings
 every_row = refl
 

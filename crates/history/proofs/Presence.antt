@@ -8,7 +8,6 @@ use native.Mathlib.Omega.{arith}
 use lib.Dec.{ltb, ltb→lt}
 use lib.ListN.{length, get_or}
 use Rattle.laws.proofs.Every.{agree, each}
-use Rattle.cause.specs.Kinds.{limit_number}
 use Rattle.cause.specs.Causes.{causes, warnings, limit_of}
 use Rattle.command.specs.Meaning.{command_of}
 use Rattle.command.specs.Causes.{CausesAgree}
@@ -62,10 +61,7 @@ module _ (m : ℕ) (h : m < 11) where
 
   limit-data : (u : Unpaged) (p : Page) → read_data u p (command_of (limit_of m).limit_code) ≡ word_bytes (get_or p.limits m 0)
   unfolding read_data CausesAgree
-  limit-data u p =
-      let of = (causes-agree.0 m h).limit in
-      let same : limit_number of.limit % 11 ≡ m = omega (arith, of.numbered) in
-      rw (of.means, same)
+  limit-data u p = let same : m % 11 ≡ m = omega arith in rw ((causes-agree.0 m h).limit, same)
 
   field : PageField (limit_of m).limit_code
   field = limit-field m h

@@ -11,9 +11,8 @@ use borrow.Author.Tests.{eqb-true, eq-eqb, ne_eqb, le-ltb, ltb-true}
 use Rattle.laws.specs.Lists.{Bytes, any_of}
 use Rattle.laws.proofs.Branches.{either}
 use Rattle.laws.proofs.Every.{each, agree-test}
-use Rattle.cause.specs.declared.Quantity.{Quantity}
 use Rattle.cause.specs.Causes.{read_codes}
-use Rattle.command.specs.Causes.{IsReading}
+use Rattle.command.specs.declared.meaning.Command.TheVariants.{Reading}
 use Rattle.command.specs.Table.{table, entry_of, lookup}
 use Rattle.command.specs.Meaning.{command_of, reading_of}
 use Rattle.command.specs.Paged.{paged}
@@ -246,12 +245,12 @@ write_then_read x cs s m ok b h same small z =
     (written_data (write s))
     (reads_it d s z (stored_at m).0 same (each_at (Row usual_page) (0x00, []) stored (rows usual_page) m h).field k.sized (rw k.whole (granted-number x ok)) (rw k.whole small) b))
 
-read_means : (q : ℕ) → q < 4 → IsReading q (command_of (get_or read_codes q 0))
+read_means : (q : ℕ) → q < 4 → command_of (get_or read_codes q 0) ≡ Reading q
 unfolding command_of reading_of
-read_means zero h = record { quantity = Quantity.Vout; means = refl; numbered = refl }
-read_means (suc zero) h = record { quantity = Quantity.Iout; means = refl; numbered = refl }
-read_means (suc (suc zero)) h = record { quantity = Quantity.Vin; means = refl; numbered = refl }
-read_means (suc (suc (suc zero))) h = record { quantity = Quantity.Temperature; means = refl; numbered = refl }
+read_means zero h = refl
+read_means (suc zero) h = refl
+read_means (suc (suc zero)) h = refl
+read_means (suc (suc (suc zero))) h = refl
 read_means (suc (suc (suc (suc q)))) h = absurd (omega arith)
 
 module _ (q : ℕ) (few : q < 4) where
@@ -264,7 +263,7 @@ module _ (q : ℕ) (few : q < 4) where
 
   read_data_lem : (u : Unpaged) (p : Page) → read_data u p (command_of (get_or read_codes q 0)) ≡ word_bytes (reading p q)
   unfolding read_data
-  read_data_lem u p = let of = read_means q few in rw (of.means, of.numbered)
+  read_data_lem u p = rw (read_means q few)
 
 pub measured-back : MeasuredBack
 unfolding MeasuredBack ReachedValid

@@ -11,7 +11,6 @@ use lib.ListN.{length, get_or, take}
 use borrow.Author.Tests.{eqb-true}
 use Rattle.laws.proofs.Branches.{either, cond-apply}
 use Rattle.laws.proofs.Every.{agree, agree-test}
-use Rattle.cause.specs.Kinds.{cause_number, limit_number}
 use Rattle.cause.specs.Causes.{causes, warnings, limit_of, response_of}
 use Rattle.command.specs.Table.{table, entry_of, lookup}
 use Rattle.command.specs.Meaning.{command_of, setting_of, fault_of}
@@ -127,11 +126,10 @@ module _ (k : ℕ) (small : k < 11) where
   pub limit-field : PageField (limit_of k).limit_code
   unfolding read_data settled moved ticked set_measurement CausesAgree
   limit-field =
-      let of = (causes-agree.0 k small).limit in
-      let same : limit_number of.limit % 11 ≡ k = omega (arith, of.numbered) in
+      let same : k % 11 ≡ k = omega arith in
       record {
         get = λ p. word_bytes (get_or p.limits k 0);
-        shown = λ u p. rw (of.means, same);
+        shown = λ u p. rw ((causes-agree.0 k small).limit, same);
         paged = limit-paged;
         write_sets = λ p z c x y b h. word-data _ c x y (get_or p.limits k 0) _ h limit-length (limit-code c x (word_of x y) p z k small b);
         measure_keeps = λ p q w. refl;
@@ -150,11 +148,10 @@ module _ (k : ℕ) (small : k < 6) where
   response-field : PageField (response_of k).response_code
   unfolding read_data settled moved ticked set_measurement CausesAgree
   response-field =
-      let of = causes-agree.1 k small in
-      let same : cause_number of.cause % 6 ≡ k = omega (arith, of.numbered) in
+      let same : k % 6 ≡ k = omega arith in
       record {
         get = λ p. get_or p.responses k 0 ∷ [];
-        shown = λ u p. rw (of.means, same);
+        shown = λ u p. rw (causes-agree.1 k small, same);
         paged = response-paged;
         write_sets = λ p z c x y b h. byte-data _ c x y (get_or p.responses k 0) _ response-length (response-code c x (word_of x y) p z k small b);
         measure_keeps = λ p q w. refl;

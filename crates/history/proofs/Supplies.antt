@@ -11,7 +11,7 @@ use lib.ListN.{length}
 use borrow.Author.Tests.{eq-eqb, ltb-true, lt-ltb, not-false}
 use Rattle.laws.proofs.Branches.{either}
 use Rattle.command.specs.Table.{table, entry_of, lookup}
-use Rattle.command.specs.Meaning.{command_of, status_of}
+use Rattle.command.specs.Meaning.{command_of}
 use Rattle.page.specs.declared.Page.{Page}
 use Rattle.page.specs.Status.{supplies, status_byte, status_high}
 use Rattle.page.specs.Supplies.{Supplying, SuppliesExactly}
@@ -57,11 +57,11 @@ module _ (x : Choice) (cs : List Call) (i : ℕ) (ok : granted x ≡ true) (smal
       (ap (λ (p : Page). read_data d.unpaged p (command_of code)) page-there)
 
   byte-read : Reads d 0x78 (status_byte (page_of d i) d.unpaged.cml ∷ [])
-  unfolding command_of status_of read_data lookup table entry_of
+  unfolding command_of read_data lookup table entry_of
   byte-read = reads_code 0x78 (omega arith) refl
 
   word_read : Reads d 0x79 (status_byte (page_of d i) d.unpaged.cml ∷ status_high (page_of d i) ∷ [])
-  unfolding command_of status_of read_data lookup table entry_of
+  unfolding command_of read_data lookup table entry_of
   word_read = reads_code 0x79 (omega arith) refl
 
   byte-off : ShowsOff d i 0x78 1 0 6

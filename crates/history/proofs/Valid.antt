@@ -1,19 +1,17 @@
 -- Answer 15 goes to states that are not valid, and a run has none.
 -- Assumes nothing.
-use Prim.Native.Nat.{ℕ, ◌<◌}
+use Prim.Native.Nat.{ℕ}
 use mathlib.Core.Path.{◌≡◌, refl, sym, ap, ◌∙◌}
 use mathlib.Core.Bool.{Bool, true, false, not, false≢true}
 use mathlib.Core.List.{List}
-use lib.Dec.{eqb, ltb, lit<}
-use lib.ListN.{length}
-use borrow.Author.Tests.{eq-eqb}
+use lib.Dec.{eqb, ltb}
+use lib.ListN.{length, get_or}
+use borrow.Author.Tests.{eq-eqb, ltb-true}
 use Rattle.laws.specs.Lists.{all_of}
 use Rattle.laws.proofs.Branches.{either, cond_same, cond-apply}
 use Rattle.laws.proofs.Places.{all_map_at}
 use Rattle.account.specs.Account.{sampled}
 use Rattle.account.proofs.Laws.{sampled-valid}
-use Rattle.cause.specs.declared.Cause.{Cause}
-use Rattle.cause.specs.Kinds.{cause_number, limit_number}
 use Rattle.page.specs.declared.Page.{Page}
 use Rattle.page.specs.Causes.{settled, ticked}
 use Rattle.page.specs.Settings.{page_valid, set_measurement}
@@ -23,9 +21,10 @@ use Rattle.unpaged.specs.Unpaged.{unpaged_valid, refused}
 use Rattle.unpaged.specs.Events.{measure_answer, alert_answer}
 use Rattle.writes.specs.declared.asked.Setting.{Setting}
 use Rattle.writes.specs.declared.asked.Write.{Write}
-use Rattle.writes.specs.Asked.{page_masks, asked, valid_setting, valid_write}
+use Rattle.writes.specs.Asked.{page_masks, word_of, asked, valid_setting, valid_write}
 use Rattle.writes.specs.Answers.{data_answer, length_answer, code_answer, addressed_answer, write_answer}
 use Rattle.writes.specs.Left.{applied, changed, cleared, page_left, unpaged_left}
+use Rattle.writes.specs.Accepted.{code_of}
 use Rattle.reads.specs.Answers.{read_answer}
 use Rattle.reads.specs.Applies.{AnswersApply}
 use Rattle.reads.proofs.Applies.{answers_apply}
@@ -37,6 +36,7 @@ use Rattle.device.proofs.PowerOn.{powered-valid}
 use Rattle.device.proofs.Touches.{written-pages, ticked-pages}
 use Rattle.history.specs.Run.{next, answer, reached}
 use Rattle.history.specs.Valid.{Fifteen, ReachedValid, NoFifteen}
+use Rattle.history.proofs.Codes.{small_setting, small_response, response-code}
 use Rattle.history.proofs.Outcomes.{done_next, refused-next, by_answer, write_next, takes_effect_of, written-unpaged}
 use Rattle.history.proofs.Runs.{kept-in_runs, same_length}
 
@@ -64,30 +64,22 @@ fifteen d c = either (device_valid d) (λ e. rw (e, answer) (not_15 d c)) (λ e.
 
 -- ---- a call leaves a valid state valid
 
-cause-lt : (k : Cause) → cause_number k < 6
-cause-lt Cause.VoutOv = lit< tt
-cause-lt Cause.IoutOc = lit< tt
-cause-lt Cause.Ot = lit< tt
-cause-lt Cause.Ut = lit< tt
-cause-lt Cause.VinOv = lit< tt
-cause-lt Cause.VinUv = lit< tt
-
 module _ (p : Page) (v : page_valid p ≡ true) where
-  setting_valid : (s : Setting) → valid_setting s ≡ true → page_valid (applied s p) ≡ true
+  setting_valid : (s : Setting) → valid_setting s ≡ true → small_setting s ≡ true → page_valid (applied s p) ≡ true
   unfolding applied valid_setting
-  setting_valid (Setting.Operation x) e = operation_valid p x v e
-  setting_valid (Setting.VoutCommand w) e = command_valid p w ∙ v
-  setting_valid (Setting.Limit k w) e = limit-valid p (limit_number k) w ∙ v
-  setting_valid (Setting.Response k x) e = response-valid p (cause_number k) x (cause-lt k) v e
+  setting_valid (Setting.Operation x) e small = operation_valid p x v e
+  setting_valid (Setting.VoutCommand w) e small = command_valid p w ∙ v
+  setting_valid (Setting.Limit k w) e small = limit-valid p k w ∙ v
+  setting_valid (Setting.Response k x) e small = response-valid p k x (ltb-true k 6 small) v e
 
-  page-valid : (n : ℕ) (w : Write) → valid_write n w ≡ true → page_valid (page_left w p) ≡ true
+  page-valid : (n : ℕ) (w : Write) → valid_write n w ≡ true → small_response w ≡ true → page_valid (page_left w p) ≡ true
   unfolding page_left changed cleared valid_write
-  page-valid n Write.Nothing e = v
-  page-valid n (Write.SelectPage x) e = v
-  page-valid n (Write.Protect x) e = v
-  page-valid n (Write.Change s) e = settled-valid (applied s p) (setting_valid s e)
-  page-valid n (Write.ClearCml m) e = v
-  page-valid n (Write.Clear m) e = settled-valid _ (clear_valid p (page_masks m) ∙ v)
+  page-valid n Write.Nothing e small = v
+  page-valid n (Write.SelectPage x) e small = v
+  page-valid n (Write.Protect x) e small = v
+  page-valid n (Write.Change s) e small = settled-valid (applied s p) (setting_valid s e small)
+  page-valid n (Write.ClearCml m) e small = v
+  page-valid n (Write.Clear m) e small = settled-valid _ (clear_valid p (page_masks m) ∙ v)
 
 module _ (d : Device) (v : Valid d) where
   abbrev n : ℕ
@@ -117,12 +109,14 @@ module _ (d : Device) (valid : device_valid d ≡ true) where
   write_valid s z =
       let w = asked s in
       let a = takes_effect_of d s valid z in
+      let x = get_or s 2 0 in
+      let small = response-code (code_of s) x (word_of x (get_or s 3 0)) in
       made-valid d (next d (write s)) v (same_length d (write s))
       (ap (λ (e : Device). unpaged_valid (length d.pages) e.unpaged) (write_next d s z)
       ∙ written-unpaged d w (length d.pages) ∙ unpaged-valid d v w a.valid)
       (ap (λ (e : Device). all_of page_valid e.pages) (write_next d s z)
       ∙ rw (written-pages d w)
-      (all_map_at page_valid _ (page_left w) d.pages (λ p e. page-valid p e (length d.pages) w a.valid) v.pages))
+      (all_map_at page_valid _ (page_left w) d.pages (λ p e. page-valid p e (length d.pages) w a.valid small) v.pages))
 
   measure_valid : (page quantity word : ℕ) → answer d (measure page quantity word) ≡ 0 → device_valid (next d (measure page quantity word)) ≡ true
   unfolding effect measured alert_risen unpaged_valid

@@ -5,17 +5,16 @@ use mathlib.Core.Path.{◌≡◌, refl}
 use mathlib.Core.Logic.{⊎_elim}
 use mathlib.Core.Bool.{Bool, true, false, ◌||◌, false≢true}
 use native.Mathlib.Omega.{arith}
-use lib.Dec.{ltb}
+use lib.Dec.{eqb, ltb}
 use lib.ListN.{get_or}
 use borrow.Author.Tests.{ltb-true}
 use Rattle.laws.proofs.Branches.{either}
 use Rattle.laws.proofs.Every.{agree-test}
 use Rattle.laws.proofs.Lists.{byte-lt}
 use Rattle.cause.specs.Causes.{warnings}
-use Rattle.cause.specs.Kinds.{limit_number}
 use Rattle.command.specs.declared.meaning.Command.{Command}
-use Rattle.command.specs.declared.meaning.Command.TheVariants.{SelectPage, Operation, ClearFaults, WriteProtect, Capability, VoutMode, VoutCommand, StatusByte, StatusWord, StatusCml, ReadEin, Revision, Absent, Coefficients}
-use Rattle.command.specs.Meaning.{command_of, setting_of, fault_of, status_of, reading_of}
+use Rattle.command.specs.declared.meaning.Command.TheVariants.{SelectPage, Operation, ClearFaults, WriteProtect, Capability, VoutMode, VoutCommand, Limit, Response, StatusByte, StatusWord, Status, ReadEin, Reading, Revision, Absent, Coefficients}
+use Rattle.command.specs.Meaning.{command_of, setting_of, fault_of, reading_of}
 use Rattle.page.specs.declared.Page.{Page}
 use Rattle.page.specs.Status.{reading}
 use Rattle.unpaged.specs.declared.Unpaged.{Unpaged}
@@ -38,20 +37,19 @@ plain WriteProtect = true
 plain Capability = true
 plain VoutMode = true
 plain VoutCommand = true
-plain (Command.Limit k) = ltb (limit_number k) 6
-plain (Command.Response k) = true
+plain (Limit k) = ltb k 6
+plain (Response k) = true
 plain StatusByte = false
 plain StatusWord = false
-plain (Command.Status k) = false
-plain StatusCml = true
+plain (Status k) = eqb k 4
 plain ReadEin = true
-plain (Command.Reading q) = true
+plain (Reading q) = true
 plain Revision = true
 plain Absent = true
 plain Coefficients = true
 
 plain_code : (c : ℕ) → c < 256 → shows_warnings c ≡ false → plain (command_of c) ≡ true
-unfolding shows_warnings warn_limit warnings command_of setting_of fault_of status_of reading_of
+unfolding shows_warnings warn_limit warnings command_of setting_of fault_of reading_of
 plain_code c h n =
     let both = agree-test (λ c. shows_warnings c || plain (command_of c)) (λ c. true) 256 tt c h in
     rw n at both
@@ -67,17 +65,16 @@ module _ (u v : Unpaged) (page : u.page ≡ v.page) (protect : u.protect ≡ v.p
   data_alike Capability h = refl
   data_alike VoutMode h = refl
   data_alike VoutCommand h = rw a.command
-  data_alike (Command.Limit k) h =
-      let small = ltb-true (limit_number k) 6 h in
-      let same : limit_number k % 11 ≡ limit_number k = omega arith in
-      rw (same, fault_limit p q a (limit_number k) small)
-  data_alike (Command.Response k) h = rw a.responses
+  data_alike (Limit k) h =
+      let small = ltb-true k 6 h in
+      let same : k % 11 ≡ k = omega arith in
+      rw (same, fault_limit p q a k small)
+  data_alike (Response k) h = rw a.responses
   data_alike StatusByte h = absurd (false≢true h)
   data_alike StatusWord h = absurd (false≢true h)
-  data_alike (Command.Status k) h = absurd (false≢true h)
-  data_alike StatusCml h = rw cml
+  data_alike (Status k) h = rw (h, cml)
   data_alike ReadEin h = rw energy
-  data_alike (Command.Reading x) h = rw (a.words, a.measured)
+  data_alike (Reading x) h = rw (a.words, a.measured)
   data_alike Revision h = refl
   data_alike Absent h = refl
   data_alike Coefficients h = refl

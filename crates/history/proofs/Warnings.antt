@@ -14,10 +14,8 @@ use Rattle.laws.proofs.Branches.{either, cond_same, cond-apply}
 use Rattle.laws.proofs.Places.{length-map_at, get_or-map_at}
 use Rattle.account.specs.declared.Account.{Account}
 use Rattle.account.specs.Account.{sampled}
-use Rattle.cause.specs.declared.Limit.{Limit}
-use Rattle.cause.specs.Kinds.{limit_number}
 use Rattle.cause.specs.Causes.{warnings}
-use Rattle.command.specs.declared.meaning.Command.{Command}
+use Rattle.command.specs.declared.meaning.Command.TheVariants.{Limit}
 use Rattle.command.specs.Meaning.{command_of, fault_of}
 use Rattle.page.specs.declared.Page.{Page}
 use Rattle.page.specs.Page.{no_page}
@@ -292,14 +290,14 @@ stay_alike d e c a = (answer-alike d e a c, next-after d e a c)
 -- ---- a warn limit
 
 -- its code means one of the limits 6 to 10
-limit-meant : (code : ℕ) → warn_limit code ≡ true → (k : Limit) × (6 ≤ limit_number k) × (limit_number k < 11) × (command_of code ≡ Command.Limit k)
+limit-meant : (code : ℕ) → warn_limit code ≡ true → (k : ℕ) × (6 ≤ k) × (k < 11) × (command_of code ≡ Limit k)
 unfolding warn_limit warnings command_of fault_of
 limit-meant code h =
-    either (eqb code 0x42) (λ y. (Limit.VoutOvWarn, omega arith, omega arith, ap command_of (eqb-true code 0x42 y)))
-    (λ a. either (eqb code 0x4A) (λ y. (Limit.IoutOcWarn, omega arith, omega arith, ap command_of (eqb-true code 0x4A y)))
-    (λ b. either (eqb code 0x51) (λ y. (Limit.OtWarn, omega arith, omega arith, ap command_of (eqb-true code 0x51 y)))
-    (λ c. either (eqb code 0x57) (λ y. (Limit.VinOvWarn, omega arith, omega arith, ap command_of (eqb-true code 0x57 y)))
-    (λ e. either (eqb code 0x58) (λ y. (Limit.VinUvWarn, omega arith, omega arith, ap command_of (eqb-true code 0x58 y)))
+    either (eqb code 0x42) (λ y. (6, omega arith, omega arith, ap command_of (eqb-true code 0x42 y)))
+    (λ a. either (eqb code 0x4A) (λ y. (7, omega arith, omega arith, ap command_of (eqb-true code 0x4A y)))
+    (λ b. either (eqb code 0x51) (λ y. (8, omega arith, omega arith, ap command_of (eqb-true code 0x51 y)))
+    (λ c. either (eqb code 0x57) (λ y. (9, omega arith, omega arith, ap command_of (eqb-true code 0x57 y)))
+    (λ e. either (eqb code 0x58) (λ y. (10, omega arith, omega arith, ap command_of (eqb-true code 0x58 y)))
     (λ f. absurd (false≢true (rw (a, b, c, e, f) at h)))))))
 
 module _ (chosen : Choice) (cs : List Call) where
@@ -307,7 +305,7 @@ module _ (chosen : Choice) (cs : List Call) where
   before = reached chosen cs
 
   -- set in a run, it leaves the state alike
-  limit-set : (k : Limit) (w : ℕ) → 6 ≤ limit_number k → limit_number k < 11 → Alike (written before (Write.Change (Setting.Limit k w))) before
+  limit-set : (k w : ℕ) → 6 ≤ k → k < 11 → Alike (written before (Write.Change (Setting.Limit k w))) before
   unfolding unpaged_left
   limit-set k w low high =
       let x = Write.Change (Setting.Limit k w) in

@@ -131,6 +131,13 @@ module _ {A : Type 0} (f : Form A) where
       let m : n - i ≡ suc (n - (i + 1)) = omega arith in
       rw k (rw (m, sym e ∙ y) at w)
 
+  -- and one that is not valid decides
+  pub tested_not : (p : A → Bool) (n i : ℕ) (s : List ℕ) (at : ℕ) (whole : Bool) → i < n → p (f.get s at) ≡ false
+      → all_of p (get_all f (n - i) s at) ≡ whole → false ≡ whole
+  tested_not p n i s at whole h e w =
+      let m : n - i ≡ suc (n - (i + 1)) = omega arith in
+      rw (m, e) at w
+
   -- a turn of the loop that stores an array: what is left to store gives the whole
   pub store_step : (s : List ℕ) (k i : ℕ) (l : List A) → i < length l
       → store_all f (f.store s k (get_or l i f.none)) (k + f.width) (drop (i + 1) l) ≡ store_all f s k (drop i l)

@@ -11,6 +11,7 @@ use value::format::Format;
 impl Stored for Format {
     ghost form = { format_form };
 
+    #[inline(always)]
     fn load(s: &[u8], at: &mut usize) -> Format {
         Format {
             direct: bool::load(s, at),
@@ -20,6 +21,7 @@ impl Stored for Format {
         }
     }
 
+    #[inline(always)]
     fn store(self, s: &mut [u8], at: &mut usize) {
         self.direct.store(s, at);
         self.m.store(s, at);
@@ -46,6 +48,7 @@ impl Checked for Format {
     const WIDE: usize = 6;
 
     // Of a linear one the coefficients are not looked at.
+    #[inline(always)]
     fn valid_at(s: &[u8], mut at: usize) -> bool {
         s[at] == 0 || value::format::format_valid(Format::load(s, &mut at))
     }
@@ -62,6 +65,7 @@ impl Checked for [Format; 3] {
 
     const WIDE: usize = 18;
 
+    #[inline(always)]
     fn valid_at(s: &[u8], at: usize) -> bool {
         let vin = at + Format::WIDE;
         let temperature = vin + Format::WIDE;

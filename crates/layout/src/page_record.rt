@@ -19,20 +19,47 @@ const FORMATS: usize = 54;
 impl Stored for Page {
     ghost form = { page_form };
 
-    // Inlined, so that the place is a number in a register and no memory that a byte of the buffer might be.
+    // Inlined, so that the place is a number in a register and no memory that a byte of the buffer might be; and written out, since at -Os
+    // LLVM leaves the loop over an array as it is, with a counter of 64 bits.
     #[inline(always)]
     fn load(s: &[u8], at: &mut usize) -> Page {
         Page {
             operation: u8::load(s, at),
             command: u16::load(s, at),
-            limits: <[u16; 11]>::load(s, at),
+            limits: [
+                u16::load(s, at),
+                u16::load(s, at),
+                u16::load(s, at),
+                u16::load(s, at),
+                u16::load(s, at),
+                u16::load(s, at),
+                u16::load(s, at),
+                u16::load(s, at),
+                u16::load(s, at),
+                u16::load(s, at),
+                u16::load(s, at),
+            ],
             responses: <[u8; 6]>::load(s, at),
             machines: <[u8; 6]>::load(s, at),
-            words: <[u16; 4]>::load(s, at),
-            measured: <[bool; 4]>::load(s, at),
+            words: [
+                u16::load(s, at),
+                u16::load(s, at),
+                u16::load(s, at),
+                u16::load(s, at),
+            ],
+            measured: [
+                bool::load(s, at),
+                bool::load(s, at),
+                bool::load(s, at),
+                bool::load(s, at),
+            ],
             status: <[u8; 4]>::load(s, at),
             tripped: bool::load(s, at),
-            formats: <[Format; 3]>::load(s, at),
+            formats: [
+                Format::load(s, at),
+                Format::load(s, at),
+                Format::load(s, at),
+            ],
         }
     }
 
@@ -46,7 +73,10 @@ impl Stored for Page {
         self.measured.store(s, at);
         self.status.store(s, at);
         self.tripped.store(s, at);
-        self.formats.store(s, at);
+        let [iout, vin, temperature] = self.formats;
+        iout.store(s, at);
+        vin.store(s, at);
+        temperature.store(s, at);
     }
 }
 
@@ -58,6 +88,7 @@ impl Checked for Page {
     const WIDE: usize = PAGE;
 
     // Of OPERATION, the response to IOUT_OC, the machines and the formats: the first that is not valid ends the test.
+    #[inline(always)]
     fn valid_at(s: &[u8], at: usize) -> bool {
         let machines = <[u8; 6]>::load(s, &mut (at + MACHINES));
         settings::valid_operation(s[at])

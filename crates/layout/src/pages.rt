@@ -1,26 +1,38 @@
 // One of the eight pages of a state buffer.
 ghost use Rattle.std.specs.Prelude.{◌≡◌, cond, ◌&&◌, ◌+◌, ◌*◌, ◌<◌, ltb, get_or};
 ghost use Rattle.page.specs.Page.{power_on_page};
+ghost use Rattle.page.specs.Status.{any_status};
 ghost use Rattle.layout.specs.Layout.{page_form, pages_in, page_wide, pages_from};
 
 use super::stored::Stored;
 use super::{PAGE, PAGES, SIZE};
 use page::Page;
 
+// Where the status registers of a page stand in it.
+const STATUS: usize = 49;
+
 // Where page i stands.
-fn place(i: u8) -> usize
+pub(crate) fn place(i: u8) -> usize
     ensures { result ≡ pages_from + page_wide * i }
 {
     PAGES + PAGE * usize::from(i)
 }
 
-// Page i of eight. Not inlined in each walk: that would make a tick a fifth quicker, and the streaming functions larger than the 16 KiB that
-// firmware/test allows at -Os.
+// Page i of eight.
 pub fn load_page(s: &[u8; SIZE], i: u8) -> Page
     requires { i < 8 }
     ensures { result ≡ get_or (pages_in s.now) i power_on_page }
 {
     Page::load(s, &mut place(i))
+}
+
+// Some status bit of page i of eight is 1, from its four status bytes alone.
+pub fn any_status(s: &[u8; SIZE], i: u8) -> bool
+    requires { i < 8 }
+    ensures { result ≡ any_status (get_or (pages_in s.now) i power_on_page) }
+{
+    let at = place(i) + STATUS;
+    (s[at] | s[at + 1] | s[at + 2] | s[at + 3]) != 0
 }
 
 // Page i; past the last a page as power-on leaves it.

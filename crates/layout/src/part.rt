@@ -12,6 +12,7 @@ use bus::Part;
 impl Stored for Part {
     ghost form = { part_form };
 
+    #[inline(always)]
     fn load(s: &[u8], at: &mut usize) -> Part {
         Part {
             phase: u8::load(s, at),
@@ -39,6 +40,7 @@ impl Checked for Part {
 
     const WIDE: usize = 22;
 
+    #[inline(always)]
     fn valid_at(s: &[u8], mut at: usize) -> bool {
         bus::part_valid(Part::load(s, &mut at))
     }

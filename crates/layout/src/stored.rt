@@ -2,7 +2,7 @@
 // four bytes, a mark, and an array of values.
 ghost use Rattle.std.specs.Prelude.{◌≡◌, ℕ, ◌+◌, ◌*◌, ◌≤◌, Bool, length};
 ghost use Rattle.laws.specs.Lists.{all_of};
-ghost use Rattle.layout.specs.Form.{Form, octet, word, mark, array, get_all};
+ghost use Rattle.layout.specs.Form.{Form, octet, word, mark, array, get_all, store_all};
 ghost use Rattle.layout.specs.Layout.{long};
 
 pub trait Stored: Copy {
@@ -44,12 +44,14 @@ pub trait Checked: Stored {
 impl Stored for u8 {
     ghost form = { octet };
 
+    #[inline(always)]
     fn load(s: &[u8], at: &mut usize) -> u8 {
         let x = s[*at];
         *at += 1;
         x
     }
 
+    #[inline(always)]
     fn store(self, s: &mut [u8], at: &mut usize) {
         s[*at] = self;
         *at += 1;
@@ -65,12 +67,14 @@ impl Element for u8 {
 impl Stored for u16 {
     ghost form = { word };
 
+    #[inline(always)]
     fn load(s: &[u8], at: &mut usize) -> u16 {
         let low = u8::load(s, at);
         let high = u8::load(s, at);
         u16::from_le_bytes([low, high])
     }
 
+    #[inline(always)]
     fn store(self, s: &mut [u8], at: &mut usize) {
         let [low, high] = self.to_le_bytes();
         low.store(s, at);
@@ -86,12 +90,14 @@ impl Element for u16 {
 impl Stored for u32 {
     ghost form = { long };
 
+    #[inline(always)]
     fn load(s: &[u8], at: &mut usize) -> u32 {
         let low = u16::load(s, at);
         let high = u16::load(s, at);
         u32::from(low) + u32::from(high) * 0x1_0000
     }
 
+    #[inline(always)]
     fn store(self, s: &mut [u8], at: &mut usize) {
         let low = (self % 0x1_0000) as u16;
         let high = (self / 0x1_0000) as u16;
@@ -105,10 +111,12 @@ impl Stored for u32 {
 impl Stored for bool {
     ghost form = { mark };
 
+    #[inline(always)]
     fn load(s: &[u8], at: &mut usize) -> bool {
         u8::load(s, at) != 0
     }
 
+    #[inline(always)]
     fn store(self, s: &mut [u8], at: &mut usize) {
         u8::from(self).store(s, at);
     }
@@ -130,10 +138,21 @@ impl<T: Element, const N: usize> Stored for [T; N] {
         all
     }
 
+    #[inline(always)]
     fn store(self, s: &mut [u8], at: &mut usize) {
-        for x in self {
-            x.store(s, at);
-        }
+        store_each(s, at, &self);
+    }
+}
+
+// The values of a slice of any length, one behind the other.
+#[inline(always)]
+pub fn store_each<T: Stored>(s: &mut [u8], at: &mut usize, all: &[T])
+    requires { at.old + length all.now * T.form.width ≤ length s.old }
+    ensures value { s.new ≡ store_all T.form s.old at.old all.now }
+    ensures place { at.new ≡ at.old + length all.now * T.form.width }
+{
+    for &x in all {
+        x.store(s, at);
     }
 }
 

@@ -11,6 +11,7 @@ use unpaged::Unpaged;
 impl Stored for Account {
     ghost form = { account_form };
 
+    #[inline(always)]
     fn load(s: &[u8], at: &mut usize) -> Account {
         Account {
             accumulator: u16::load(s, at),
@@ -30,6 +31,7 @@ impl Stored for Account {
 impl Stored for Unpaged {
     ghost form = { unpaged_form };
 
+    #[inline(always)]
     fn load(s: &[u8], at: &mut usize) -> Unpaged {
         Unpaged {
             page: u8::load(s, at),
@@ -57,6 +59,7 @@ impl Checked for Unpaged {
 
     const WIDE: usize = 12;
 
+    #[inline(always)]
     fn valid_at(s: &[u8], mut at: usize) -> bool {
         unpaged::unpaged_valid(8, Unpaged::load(s, &mut at))
     }

@@ -7,9 +7,10 @@ use mathlib.Core.Bool.{true, ◌&&◌, and-eq-true_iff, and-true, and-false}
 use mathlib.Core.List.{List}
 use lib.Dec.{eqb, ltb}
 use lib.ListN.{length}
-use Rattle.std.specs.Prelude.{Option, Some, None, Result}
+use borrow.Author.Tests.{eqb-false}
+use Rattle.std.specs.Prelude.{Option, Some, None, Result, Ok, Err, IfOk}
 use Rattle.answer.specs.declared.Refusal.{Refusal}
-use Rattle.answer.specs.Answer.{answer_of as number_given}
+use Rattle.answer.specs.Answer.{number_of, answer_of as number_given}
 use Rattle.laws.specs.Lists.{all_of}
 use Rattle.laws.proofs.Branches.{either}
 use Rattle.account.specs.Account.{sampled}
@@ -20,19 +21,21 @@ use Rattle.unpaged.specs.declared.Unpaged.{Unpaged}
 use Rattle.unpaged.specs.Unpaged.{shown, unpaged_valid}
 use Rattle.unpaged.specs.Events.{measure_answer, alert_answer}
 use Rattle.writes.specs.declared.asked.Write.{Write}
+use Rattle.writes.specs.Asked.{asked}
 use Rattle.writes.specs.Answers.{write_answer}
 use Rattle.reads.specs.Request.{request_of}
 use Rattle.reads.specs.Answers.{read_answer}
 use Rattle.reads.specs.Reply.{reply_of}
 use Rattle.device.specs.Device.{device, device_valid, supported, page_shown}
 use Rattle.device.specs.Step.{Call, write, read, measure, sample, alert_response, tick, answer_of, answered, left, effect, sent, refused_device, step}
-use Rattle.device.proofs.States.{valid_parts}
+use Rattle.device.proofs.States.{valid_parts, answered-valid, answer-zero}
+use Rattle.device.proofs.Refused.{refusal-nonzero}
 use Rattle.device.proofs.Calls.{stepped, replied, read_left, shown-of_any, sent-shown}
 use Rattle.records.specs.Records.{counted, surveyed, taken}
 use Rattle.lent.specs.declared.Outcome.{Outcome}
 use Rattle.lent.specs.declared.turns.Turn.{Turn}
 use Rattle.lent.specs.declared.turns.Sending.{Sending}
-use Rattle.lent.specs.Lent.{seen_valid, seen_answer, beside, outcome, refused_outcome, measure_turn, sample_left, read_turn, alert_turn}
+use Rattle.lent.specs.Lent.{seen_valid, seen_answer, beside, outcome, refused_outcome, answered_turn, measure_turn, sample_left, read_turn, alert_turn}
 use Rattle.lent.proofs.Seen.{seen_accepted, seen_refused}
 use Rattle.lent.proofs.Taken.{few_taken, valid_few}
 use Rattle.lent.proofs.Outcomes.{alert_done}
@@ -65,13 +68,28 @@ answer-is u ps s c rule e r =
     rw (e, v) (seen_accepted (surveyed ps) u rule (length ps) number (seen-valid u ps ∙ v) ∙ r v))
     (λ v. rw v (seen_refused s u rule (ap (λ (x : Option ℕ). seen_valid x u) e ∙ seen-valid u ps ∙ v)))
 
+-- a write of answer 0 is one that asks for something
+accepts : {w : Write} (j : Result Write Refusal) → number_given j ≡ 0 → IfOk j (λ x. x ≡ w) → j ≡ Ok w
+accepts (Ok x) z e = ap Ok e
+accepts (Err r) z e = absurd (eqb-false (number_of r) 0 (refusal-nonzero r) z)
+
 -- ---- call by call
 
 module _ (u : Unpaged) (s : Option ℕ) where
-  pub write_known : (bytes : List ℕ) (j : Result Write Refusal) → number_given j ≡ seen_answer s u (λ n. write_answer n u bytes) → (ps : List Page) → s ≡ surveyed ps
-      → number_given j ≡ answered (device u ps) (write bytes)
-  unfolding answer_of
-  write_known bytes j ja ps e = ja ∙ answer-is u ps s (write bytes) _ e (λ v. refl)
+  -- n is the number of records, where they have one
+  module _ (bytes : List ℕ) (n : ℕ) (en : (k : ℕ) → s ≡ Some k → n ≡ k) (j : Result Write Refusal) (ja : number_given j ≡ write_answer n u bytes) (ps : List Page) (e : s ≡ surveyed ps) where
+    rule-is : device_valid (device u ps) ≡ true → number_given j ≡ answer_of (device u ps) (write bytes)
+    unfolding answer_of
+    rule-is v = ja ∙ ap (λ (k : ℕ). write_answer k u bytes) (en (length ps) (e ∙ seen-number u ps v))
+
+    pub write_known : (p : Page) (w : Write) (t : Turn) → t ≡ answered_turn u p (seen_answer s u (λ k. number_given j)) w
+        → t ≡ answered_turn u p (answered (device u ps) (write bytes)) w
+    write_known p w t et = et ∙ ap (λ (a : ℕ). answered_turn u p a w) (answer-is u ps s (write bytes) (λ k. number_given j) e rule-is)
+
+    pub write_asked : IfOk j (λ w. w ≡ asked bytes) → answered (device u ps) (write bytes) ≡ 0 → j ≡ Ok (asked bytes)
+    write_asked jw z =
+        let d = device u ps in
+        accepts j (rule-is (answered-valid d (write bytes) z) ∙ answer-zero d (write bytes) z) jw
 
   pub measure_known : (p : Page) (k quantity word : ℕ) (t : Turn) → t ≡ measure_turn u p (seen_answer s u (λ n. measure_answer n k quantity)) quantity word
       → (ps : List Page) → s ≡ surveyed ps → t ≡ measure_turn u p (answered (device u ps) (measure k quantity word)) quantity word

@@ -4,3 +4,4 @@ pub mod Outcomes
 pub mod Sweep
 pub mod Powered
 pub mod Seen
+pub mod Judged

@@ -9,10 +9,8 @@ use lib.Dec.{eqb, ltb}
 use lib.ListN.{length, get_or, set}
 use lib.Seq.{set_out}
 use borrow.Author.Tests.{eqb-true, ltb-true, eq-eqb, ne_eqb}
-use Rattle.std.specs.Prelude.{Some, None, Result, Ok, Err, IfOk}
+use Rattle.std.specs.Prelude.{Some, None}
 use Rattle.std.proofs.lemmas.List.{get_or_default}
-use Rattle.answer.specs.declared.Refusal.{Refusal}
-use Rattle.answer.specs.Answer.{number_of, answer_of as number_given}
 use Rattle.laws.specs.Lists.{any_of, any_pair}
 use Rattle.laws.proofs.Branches.{either}
 use Rattle.page.specs.declared.Page.{Page}
@@ -31,10 +29,10 @@ use Rattle.device.proofs.OnePage.{one_written, one_measured}
 use Rattle.device.proofs.EveryPage.{every-written}
 use Rattle.device.proofs.States.{valid_parts, answered-valid}
 use Rattle.device.proofs.Refused.{device-stays}
-use Rattle.device.proofs.Calls.{stepped, done_call, refused_call, valid_page_lem, one_small, measured-small}
+use Rattle.device.proofs.Calls.{stepped, valid_page_lem, one_small, measured-small}
 use Rattle.lent.specs.declared.turns.Turn.{Turn}
 use Rattle.lent.specs.Every.{swept, rising}
-use Rattle.lent.specs.Lent.{beside, outcome, refused_outcome, accepted_page, accepted_turn, write_turn, measured_turn, measured_page, measure_turn, finished, alert_left, turn}
+use Rattle.lent.specs.Lent.{beside, outcome, refused_outcome, accepted_page, accepted_turn, answered_turn, measured_turn, measured_page, measure_turn, finished, alert_left, turn}
 use Rattle.records.specs.Records.{taken, put_back}
 use Rattle.lent.proofs.Taken.{put_back_lem, few_taken, few_put, many_put, many_answered}
 
@@ -92,46 +90,48 @@ module _ (u : Unpaged) (ps : List Page) where
   accepted-measure k quantity word p h e = rw e (ap (λ (d : Device). done d 0) (one_measured (device u ps) k quantity word h))
 
   -- a refused write
-  refused-write : (bytes : List ℕ) (r : Refusal) → number_of r ≡ answered (device u ps) (write bytes)
-      → beside (finished (refused_outcome u (number_of r)) false false false) ps ≡ (step (device u ps) (write bytes)).done
-  unfolding finished refused_outcome refused_device
-  refused-write bytes r e = rw (or-false (refused u (number_of r)).alert) (refused_call (device u ps) (write bytes) r e)
+  refused-write : (bytes : List ℕ) → eqb (answered (device u ps) (write bytes)) 0 ≡ false
+      → beside (finished (refused_outcome u (answered (device u ps) (write bytes))) false false false) ps ≡ (step (device u ps) (write bytes)).done
+  unfolding finished refused_outcome left refused_device
+  refused-write bytes n =
+      let a = answered (device u ps) (write bytes) in
+      rw (or-false (refused u a).alert) (stepped (device u ps) (write bytes) _ a refl (rw n))
 
   -- ys are the records with the page put back, zs those after the walk over every one
-  turned-done : (bytes : List ℕ) (p : Page) (j : Result Write Refusal) → p ≡ get_or ps u.page power_on_page → number_given j ≡ answered (device u ps) (write bytes)
-      → IfOk j (λ w. w ≡ asked bytes)
-      → let t = write_turn u p j in let ys = set ps u.page t.page in let zs = swept t.every ys in
+  turned-done : (bytes : List ℕ) (p : Page) (w : Write) (t : Turn) → p ≡ get_or ps u.page power_on_page → (answered (device u ps) (write bytes) ≡ 0 → w ≡ asked bytes)
+      → t ≡ answered_turn u p (answered (device u ps) (write bytes)) w
+      → let ys = set ps u.page t.page in let zs = swept t.every ys in
       beside (finished t.outcome t.clears (rising t.every ys) (t.clears && any_of any_status zs)) zs ≡ (step (device u ps) (write bytes)).done
-  unfolding write_turn accepted_turn effect
-  turned-done bytes p (Ok w) held e ew =
+  unfolding answered_turn accepted_turn left effect
+  turned-done bytes p w t held ew e =
       let d = device u ps in
-      accepted-write w p (answered-valid d (write bytes) (sym e)) held ∙ done_call d (write bytes) _ e (ap (written d) ew)
-  turned-done bytes p (Err r) held e ew = rw (held, put_back_lem power_on_page ps u.page) (refused-write bytes r e)
+      let a = answered d (write bytes) in
+      either (eqb a 0)
+      (λ y. let z = eqb-true a 0 y in
+      let t_is : t ≡ accepted_turn u p w = e ∙ rw y in
+      rw t_is (accepted-write w p (answered-valid d (write bytes) z) held ∙ stepped d (write bytes) _ 0 (sym z) (ap (written d) (ew z))))
+      (λ n. let t_is : t ≡ turn (refused_outcome u a) p None false = e ∙ rw n in
+      rw (t_is, held, put_back_lem power_on_page ps u.page) (refused-write bytes n))
 
-  pub write_done : (bytes : List ℕ) (p : Page) (j : Result Write Refusal) (t : Turn) (ys zs : List Page) (rose standing : Bool) → p ≡ get_or ps u.page power_on_page
-      → number_given j ≡ answered (device u ps) (write bytes) → IfOk j (λ w. w ≡ asked bytes)
-      → t ≡ write_turn u p j → ys ≡ set ps u.page t.page → rose ≡ rising t.every ys → zs ≡ swept t.every ys
+  pub write_done : (bytes : List ℕ) (p : Page) (w : Write) (t : Turn) (ys zs : List Page) (rose standing : Bool) → p ≡ get_or ps u.page power_on_page → (answered (device u ps) (write bytes) ≡ 0 → w ≡ asked bytes)
+      → t ≡ answered_turn u p (answered (device u ps) (write bytes)) w → ys ≡ set ps u.page t.page → rose ≡ rising t.every ys → zs ≡ swept t.every ys
       → standing ≡ (t.clears && any_of any_status zs) → beside (finished t.outcome t.clears rose standing) zs ≡ (step (device u ps) (write bytes)).done
-  write_done bytes p j t ys zs rose standing held ej ew e ey er ez es =
-      rw (es, ez, er, ey, e) (turned-done bytes p j held ej ew)
+  write_done bytes p w t ys zs rose standing held ew e ey er ez es =
+      rw (es, ez, er, ey) (turned-done bytes p w t held ew e)
 
-  -- the same with more than 96 records, of which none is taken out
-  many_done : (many : ltb (length ps) 97 ≡ false) (bytes : List ℕ) (p : Page) (j : Result Write Refusal) → number_given j ≡ answered (device u ps) (write bytes)
-      → let t = write_turn u p j in let ys = put_back ps u.page t.page in let zs = swept t.every ys in
-      beside (finished t.outcome t.clears (rising t.every ys) (t.clears && any_of any_status zs)) zs ≡ (step (device u ps) (write bytes)).done
-  unfolding write_turn
-  many_done many bytes p (Ok w) e = let z : ◌≡◌ {A = ℕ} 0 15 = e ∙ many_answered ps many u (write bytes) in absurd (omega (arith, z))
-  many_done many bytes p (Err r) e = rw (many_put ps many u.page p) (refused-write bytes r e)
-
-  -- and with a record that is taken out of at most 96
-  pub write_lent : (bytes : List ℕ) (p : Page) (j : Result Write Refusal) (t : Turn) (ys zs : List Page) (rose standing : Bool) → p ≡ taken ps u.page
-      → number_given j ≡ answered (device u ps) (write bytes) → IfOk j (λ w. w ≡ asked bytes)
-      → t ≡ write_turn u p j → ys ≡ put_back ps u.page t.page → rose ≡ rising t.every ys → zs ≡ swept t.every ys
+  -- the same with a record that is taken out of at most 96
+  pub write_lent : (bytes : List ℕ) (p : Page) (w : Write) (t : Turn) (ys zs : List Page) (rose standing : Bool) → p ≡ taken ps u.page
+      → (answered (device u ps) (write bytes) ≡ 0 → w ≡ asked bytes)
+      → t ≡ answered_turn u p (answered (device u ps) (write bytes)) w → ys ≡ put_back ps u.page t.page → rose ≡ rising t.every ys → zs ≡ swept t.every ys
       → standing ≡ (t.clears && any_of any_status zs) → beside (finished t.outcome t.clears rose standing) zs ≡ (step (device u ps) (write bytes)).done
-  write_lent bytes p j t ys zs rose standing held ej ew e ey er ez es =
+  unfolding answered_turn
+  write_lent bytes p w t ys zs rose standing held ew e ey er ez es =
       either (ltb (length ps) 97)
-      (λ few. write_done bytes p j t ys zs rose standing (held ∙ few_taken ps u.page few) ej ew e (ey ∙ few_put ps u.page few t.page) er ez es)
-      (λ many. rw (es, ez, er, ey, e) (many_done many bytes p j ej))
+      (λ few. write_done bytes p w t ys zs rose standing (held ∙ few_taken ps u.page few) ew e (ey ∙ few_put ps u.page few t.page) er ez es)
+      (λ many. let fifteen = many_answered ps many u (write bytes) in
+      let refuses : eqb (answered (device u ps) (write bytes)) 0 ≡ false = rw fifteen in
+      let t_is : t ≡ turn (refused_outcome u (answered (device u ps) (write bytes))) p None false = e ∙ rw refuses in
+      rw (es, ez, er, ey, t_is, many_put ps many u.page p) (refused-write bytes refuses))
 
   pub measure_done : (k quantity word : ℕ) (p : Page) (t : Turn) → p ≡ get_or ps k power_on_page → t ≡ measure_turn u p (answered (device u ps) (measure k quantity word)) quantity word
       → beside t.outcome (set ps k t.page) ≡ (step (device u ps) (measure k quantity word)).done

@@ -73,6 +73,10 @@ unfoldable pub write_turn : Unpaged → Page → Result Write Refusal → Turn
 write_turn u p (Ok w) = accepted_turn u p w
 write_turn u p (Err refusal) = turn (refused_outcome u (refusal_number refusal)) p None false
 
+-- the same by the number of the answer, of a write that asks for w where it is accepted
+unfoldable pub answered_turn : Unpaged → Page → ℕ → Write → Turn
+answered_turn u p answer w = cond (eqb answer 0) (accepted_turn u p w) (turn (refused_outcome u answer) p None false)
+
 -- and an accepted measurement
 abbrev pub measured_page : Page → ℕ → ℕ → Page
 measured_page p quantity word = settled (set_measurement p quantity word)
@@ -102,7 +106,7 @@ alert_left u answer = cond (eqb answer 0) (outcome (with_alert u false) answer) 
 abbrev pub sending : Outcome → List ℕ → Sending
 sending r bytes = record { outcome = r; stream = bytes }
 
-unfoldable pub read_turn : Unpaged → Page → ℕ → Result Request Refusal → List ℕ → Sending
+unfoldable pub read_turn : Unpaged → Page → ℕ → Result Request ℕ → List ℕ → Sending
 read_turn u p answer request header = sending (refused_outcome u answer) (read_stream u p answer request header)
 
 unfoldable pub alert_turn : Unpaged → ℕ → Sending

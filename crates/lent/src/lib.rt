@@ -86,8 +86,9 @@ pub extern "C" fn tongsorrel_lent_write(u: Unpaged, pages: &mut [Page], bytes: &
 {
     let seen = records::survey(pages);
     let p = records::take(pages, u.page);
-    let write = turns::judged(bytes, seen, u);
-    let t = turns::write_left(u, p, write);
+    // without their number no record is valid: the turn is then a refusal, whatever is judged here
+    let judged = turns::judged(bytes, seen.unwrap_or(0), u);
+    let t = turns::write_turn(seen, u, p, judged);
     records::put(pages, u.page, t.page);
     let rose = rest(pages, t.every);
     let standing = t.clears && records::any_bit(pages);

@@ -8,13 +8,14 @@ ghost use Rattle.account.specs.Account.{sampled};
 ghost use Rattle.cause.specs.Kinds.{quantity_number};
 ghost use Rattle.unpaged.specs.Unpaged.{power_on_unpaged};
 ghost use Rattle.unpaged.specs.Events.{measure_answer, alert_answer};
+ghost use Rattle.writes.specs.declared.asked.Write.{Write as Asked};
 ghost use Rattle.writes.specs.Asked.{asked};
 ghost use Rattle.writes.specs.Answers.{write_answer};
 ghost use Rattle.writes.specs.Left.{page_left};
 ghost use Rattle.reads.specs.Request.{request_of};
 ghost use Rattle.reads.specs.Answers.{request_answer, read_answer};
 ghost use Rattle.device.specs.Device.{supported};
-ghost use Rattle.lent.specs.Lent.{seen_valid, seen_answer, outcome, turn, refused_outcome, accepted_turn, measured_turn, write_turn, measure_turn, finished, sample_left, alert_left, read_turn, alert_turn};
+ghost use Rattle.lent.specs.Lent.{seen_valid, seen_answer, outcome, turn, refused_outcome, accepted_turn, measured_turn, write_turn, answered_turn, measure_turn, finished, sample_left, alert_left, read_turn, alert_turn};
 
 use super::Outcome;
 use account::Account;
@@ -144,14 +145,23 @@ pub fn write_left(u: Unpaged, p: Page, write: Result<Write, Refusal>) -> Turn
     }
 }
 
-// What a write asks for, if it is accepted: its bytes are decoded here and nowhere else.
-#[tactic(auto, using(crate::proofs::Seen::seen_accepted, crate::proofs::Seen::seen_refused))]
-pub fn judged(bytes: &[u8], seen: Option<u8>, u: Unpaged) -> Result<Write, Refusal>
-    ensures answer { answer_of result ≡ seen_answer seen u (λ n. write_answer n u bytes.now) }
+// What a write asks for, if its rule accepts it where n records are lent: its bytes are decoded here and nowhere else.
+pub fn judged(bytes: &[u8], n: u8, u: Unpaged) -> Result<Write, Refusal>
+    ensures answer { answer_of result ≡ write_answer n u bytes.now }
     ensures write { IfOk result (λ w. w ≡ asked bytes.now) }
 {
-    let n = valid_number(seen, u)?;
     writes::answers::judge(n, u, bytes)
+}
+
+// A write that was judged so, and whose selected record is p: of a state that is not valid it is refused, however it was judged.
+#[tactic(auto, using(crate::proofs::Seen::seen_accepted, crate::proofs::Judged::judged_turn, crate::proofs::Judged::refused_turn))]
+pub fn write_turn(seen: Option<u8>, u: Unpaged, p: Page, judged: Result<Write, Refusal>) -> Turn
+    ensures { (w : Asked) → IfOk judged (λ x. x ≡ w) → result ≡ answered_turn u p (seen_answer seen u (λ n. answer_of judged)) w }
+{
+    match valid_number(seen, u) {
+        Ok(_) => write_left(u, p, judged),
+        Err(invalid) => unturned(u, p, invalid),
+    }
 }
 
 // The outcome of a write: the alert rises with a bit that rose on any record; after a clearing it follows the bits that
@@ -248,27 +258,23 @@ pub fn tick_outcome(seen: Option<u8>, u: Unpaged) -> Outcome
     }
 }
 
-// The answer of a read that asks for this, of the record p, with n bytes clocked.
+// The number of the answer of a read that asks for this, of the record p, with n bytes clocked.
 #[tactic(auto, using(crate::proofs::Seen::seen_accepted, crate::proofs::Seen::seen_refused))]
-fn readable(
-    seen: Option<u8>,
-    u: Unpaged,
-    p: Page,
-    request: Result<Request, Refusal>,
-    n: usize,
-) -> Result<(), Refusal>
-    ensures { answer_of result ≡ seen_answer seen u (λ k. request_answer u p request n) }
+fn readable(seen: Option<u8>, u: Unpaged, p: Page, request: Result<Request, u8>, n: usize) -> u8
+    ensures { result ≡ seen_answer seen u (λ k. request_answer u p request n) }
 {
-    valid_number(seen, u)?;
-    reads::answers::request_answer(u, p, request, n)
+    match valid_number(seen, u) {
+        Ok(_) => reads::answers::request_answer(u, p, request, n),
+        Err(refusal) => refusal.into(),
+    }
 }
 
 // A read that looks at the record p, with n bytes clocked.
 pub fn read_turn(header: &[u8], seen: Option<u8>, u: Unpaged, p: Page, n: usize) -> Sending
     ensures { result ≡ read_turn u p (seen_answer seen u (λ k. read_answer u p header.now n)) (request_of header.now) header.now }
 {
-    let request = reads::request::request_of(header);
-    let answer = answer::number(readable(seen, u, p, request, n));
+    let request = reads::request::request_of(header).map_err(u8::from);
+    let answer = readable(seen, u, p, request, n);
     Sending {
         outcome: Outcome {
             unpaged: unpaged::refused(u, answer),

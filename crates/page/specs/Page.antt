@@ -1,8 +1,10 @@
 -- A page as power-on leaves it, and a page with one group of fields changed.
 -- Assumes nothing.
-use Rattle.std.specs.Prelude.{ℕ, ◌-◌, Bool, false, ◌&&◌, List, [], ◌∷◌, map, get_or, ltb}
+use Rattle.std.specs.Prelude.{ℕ, ◌-◌, ◌<◌, ◌≡◌, Bool, false, ◌&&◌, List, [], ◌∷◌, map, get_or, ltb, Option, MatchOption}
 use Rattle.value.specs.declared.format.Format.{Format}
 use Rattle.value.specs.Format.{linear_format}
+use Rattle.cause.specs.declared.Quantity.{Quantity}
+use Rattle.cause.specs.Kinds.{quantity_number}
 use Rattle.cause.specs.Causes.{VOUT, power_on_limits, starts_with, responses}
 use Rattle.page.specs.declared.Page.{Page}
 
@@ -33,6 +35,10 @@ format_in fs q = get_or fs (q - 1) linear_format
 -- a quantity is in DIRECT form: VOUT never is, and a number past the quantities neither
 abbrev pub is_direct : List Format → ℕ → Bool
 is_direct fs q = ltb VOUT q && ltb q 4 && (format_in fs q).direct
+
+-- the quantity with the number n, and none for every number past the four
+abbrev pub Numbered : Option Quantity → ℕ → Type 0
+Numbered quantity n = MatchOption quantity (3 < n) (λ q. quantity_number q ≡ n)
 
 -- what stands past the end of a list of pages
 abbrev pub no_page : Page

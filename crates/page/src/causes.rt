@@ -34,7 +34,7 @@ fn compare(formats: [Format; 3], quantity: Quantity, word: u16, limit: u16) -> O
     if quantity == Quantity::Vout {
         return linear11::compare_unsigned(word, limit);
     }
-    let format = formats::format_of(formats, quantity);
+    let format = formats::format_of(formats, Some(quantity));
     value::format::compare_words(format, word, limit)
 }
 

@@ -1,25 +1,25 @@
 // The format of a quantity of a page.
-ghost use Rattle.std.specs.Prelude.{◌≡◌};
-ghost use Rattle.cause.specs.Kinds.{quantity_number};
-ghost use Rattle.page.specs.Page.{format_in, is_direct};
+ghost use Rattle.std.specs.Prelude.{◌≡◌, ℕ};
+ghost use Rattle.page.specs.Page.{Numbered, format_in, is_direct};
 
 use cause::Quantity;
-use value::format::Format;
+use value::format::{Format, LINEAR};
 
-// VOUT has no format: its words are Linear16, and IOUT's stands in.
-pub fn format_of(formats: [Format; 3], quantity: Quantity) -> Format
-    ensures { result ≡ format_in formats (quantity_number quantity) }
+// VOUT has no format: its words are Linear16, and IOUT's stands in. Where there is no quantity the linear format does.
+pub fn format_of(formats: [Format; 3], quantity: Option<Quantity>) -> Format
+    ensures { (n : ℕ) → Numbered quantity n → result ≡ format_in formats n }
 {
     match quantity {
-        Quantity::Vout | Quantity::Iout => formats[0],
-        Quantity::Vin => formats[1],
-        Quantity::Temperature => formats[2],
+        Some(Quantity::Vout | Quantity::Iout) => formats[0],
+        Some(Quantity::Vin) => formats[1],
+        Some(Quantity::Temperature) => formats[2],
+        None => LINEAR,
     }
 }
 
-// Whether a quantity is in DIRECT form: VOUT is not.
-pub fn is_direct(formats: [Format; 3], quantity: Quantity) -> bool
-    ensures { result ≡ is_direct formats (quantity_number quantity) }
+// Whether a quantity is in DIRECT form: VOUT is not, nor is none.
+pub fn is_direct(formats: [Format; 3], quantity: Option<Quantity>) -> bool
+    ensures { (n : ℕ) → Numbered quantity n → result ≡ is_direct formats n }
 {
-    quantity != Quantity::Vout && format_of(formats, quantity).direct
+    quantity.is_some() && quantity != Some(Quantity::Vout) && format_of(formats, quantity).direct
 }

@@ -1,11 +1,11 @@
 // What a host writes to a page and what is measured on it, each one change; and which data are valid.
 ghost use Rattle.std.specs.Prelude.{◌≡◌};
 ghost use Rattle.laws.specs.Bits.{without};
-ghost use Rattle.cause.specs.Kinds.{quantity_number, limit_number};
+ghost use Rattle.cause.specs.Kinds.{quantity_number};
 ghost use Rattle.page.specs.Settings.{valid_operation, valid_response, formats_valid, page_valid, set_operation, set_vout_command, set_limit, set_response, set_measurement, clear_bits};
 
 use super::Page;
-use cause::{Cause, Limit, Quantity};
+use cause::{Cause, Quantity};
 use retry::REST;
 use value::format::Format;
 
@@ -84,11 +84,11 @@ pub fn set_vout_command(p: Page, word: u16) -> Page
 }
 
 #[tactic(auto, unfolding(crate::specs::Settings::set_limit))]
-pub fn set_limit(p: Page, limit: Limit, word: u16) -> Page
-    ensures { result ≡ set_limit p (limit_number limit) word }
+pub fn set_limit(p: Page, k: u8, word: u16) -> Page
+    ensures { result ≡ set_limit p k word }
 {
     let mut q = p;
-    q.limits[limit as usize] = word;
+    q.limits[usize::from(k % 11)] = word;
     q
 }
 

@@ -2,12 +2,12 @@
 -- Assumes nothing.
 use mathlib.Core.Path.{◌≡◌, ap, ◌∙◌}
 use Prim.Native.Nat.{ℕ, ◌<◌}
-use lib.Bits.{bit_xor, xor_lt, xor_comm}
+use lib.Bits.{bit_xor, xor_lt, xor_comm, xor_zero_l}
 use lib.Dec.{lit<}
 use lib.ListN.{get_or}
 use Rattle.laws.proofs.Every.{agree}
 use Rattle.pec.specs.Pec.{pec_bit, pec_byte}
-use Rattle.pec.specs.Table.{entries}
+use Rattle.pec.specs.Table.{entries, turned}
 use Rattle.pec.proofs.Xor.{xor_undone}
 
 pub rule : (k : ℕ) → k < 256 → get_or entries k 0 ≡ pec_byte 0x80 k
@@ -26,3 +26,10 @@ looked_up c b hc hb =
   where
     z : ℕ
     z = bit_xor c b
+
+pub turned_rule : (k : ℕ) → k < 256 → get_or turned k 0 ≡ pec_byte 0 k
+unfolding pec_byte pec_bit
+turned_rule = agree (λ k. get_or turned k 0) (pec_byte 0) 256 tt
+
+pub turned_up : (c b : ℕ) → c < 256 → b < 256 → get_or turned (bit_xor c b) 0 ≡ pec_byte c b
+turned_up c b hc hb = turned_rule (bit_xor c b) (xor_lt 8 c b hc hb) ∙ only-xor 0 (bit_xor c b) c b (xor_zero_l (bit_xor c b))

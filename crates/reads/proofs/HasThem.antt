@@ -12,7 +12,7 @@ use Rattle.laws.proofs.Branches.{either}
 use Rattle.laws.proofs.Every.{agree-test}
 use Rattle.cause.specs.Causes.{causes, warnings}
 use Rattle.command.specs.Table.{table, lookup, entry_of}
-use Rattle.command.specs.Meaning.{command_of, setting_of, fault_of, status_of, reading_of}
+use Rattle.command.specs.Meaning.{command_of, setting_of, fault_of, reading_of}
 use Rattle.command.specs.Quantity.{carried, quantity_of}
 use Rattle.value.specs.declared.format.Format.{Format}
 use Rattle.value.specs.Format.{linear_format}
@@ -44,7 +44,7 @@ by_lists x y z d c = (x && goes 0 c d) || ((y && goes 1 c d) || ((z && goes 2 c 
 
 -- in either direction at each of the 256 codes
 same_read : (x y z : Bool) (c : ℕ) → c < 256 → by_lists x y z 1 c ≡ by_meaning x y z 1 c
-unfolding quantity_of carried command_of setting_of fault_of status_of reading_of causes warnings has_direction lookup entry_of table
+unfolding quantity_of carried command_of setting_of fault_of reading_of causes warnings has_direction lookup entry_of table
 same_read true true true c h = agree-test (by_lists true true true 1) (by_meaning true true true 1) 256 tt c h
 same_read true true false c h = agree-test (by_lists true true false 1) (by_meaning true true false 1) 256 tt c h
 same_read true false true c h = agree-test (by_lists true false true 1) (by_meaning true false true 1) 256 tt c h
@@ -55,7 +55,7 @@ same_read false false true c h = agree-test (by_lists false false true 1) (by_me
 same_read false false false c h = agree-test (by_lists false false false 1) (by_meaning false false false 1) 256 tt c h
 
 same_write : (x y z : Bool) (c : ℕ) → c < 256 → by_lists x y z 0 c ≡ by_meaning x y z 0 c
-unfolding quantity_of carried command_of setting_of fault_of status_of reading_of causes warnings has_direction lookup entry_of table
+unfolding quantity_of carried command_of setting_of fault_of reading_of causes warnings has_direction lookup entry_of table
 same_write true true true c h = agree-test (by_lists true true true 0) (by_meaning true true true 0) 256 tt c h
 same_write true true false c h = agree-test (by_lists true true false 0) (by_meaning true true false 0) 256 tt c h
 same_write true false true c h = agree-test (by_lists true false true 0) (by_meaning true false true 0) 256 tt c h
@@ -81,6 +81,8 @@ same_past x y z d c h =
       le-ltb c 0x7F (omega arith),
       le-ltb c 0x86 (omega arith),
       le-ltb c 0x99 (omega arith),
+      far 0x78 (omega arith),
+      far 0x79 (omega arith),
       far 0x46 (omega arith),
       far 0x4A (omega arith),
       far 0x55 (omega arith),

@@ -9,14 +9,13 @@ use lib.Dec.{eqb}
 use lib.ListN.{length, length-append}
 use Rattle.std.specs.Prelude.{Result, Ok, Err}
 use Rattle.laws.proofs.Branches.{either}
-use Rattle.answer.specs.declared.Refusal.{Refusal}
 use Rattle.pec.specs.Pec.{pec}
 use Rattle.account.specs.Account.{ein_bytes}
 use Rattle.command.specs.Meaning.{command_of}
 use Rattle.command.specs.Table.{entry_of}
 use Rattle.command.specs.Agreement.{row_of}
 use Rattle.command.specs.declared.meaning.Command.{Command}
-use Rattle.command.specs.declared.meaning.Command.TheVariants.{SelectPage, Operation, ClearFaults, WriteProtect, Capability, VoutMode, VoutCommand, StatusByte, StatusWord, StatusCml, ReadEin, Revision, Absent}
+use Rattle.command.specs.declared.meaning.Command.TheVariants.{SelectPage, Operation, ClearFaults, WriteProtect, Capability, VoutMode, VoutCommand, Limit, Response, StatusByte, StatusWord, Status, ReadEin, Reading, Revision, Absent}
 use Rattle.page.specs.declared.Page.{Page}
 use Rattle.unpaged.specs.declared.Unpaged.{Unpaged}
 use Rattle.reads.specs.Answers.{answers_data}
@@ -36,26 +35,25 @@ module _ (u : Unpaged) (p : Page) where
   data_length Capability = (λ r. refl, omega arith)
   data_length VoutMode = (λ r. refl, omega arith)
   data_length VoutCommand = (λ r. refl, omega arith)
-  data_length (Command.Limit l) = (λ r. refl, omega arith)
-  data_length (Command.Response k) = (λ r. refl, omega arith)
+  data_length (Limit k) = (λ r. refl, omega arith)
+  data_length (Response k) = (λ r. refl, omega arith)
   data_length StatusByte = (λ r. refl, omega arith)
   data_length StatusWord = (λ r. refl, omega arith)
-  data_length (Command.Status r) = (λ r. refl, omega arith)
-  data_length StatusCml = (λ r. refl, omega arith)
+  data_length (Status k) = (λ r. refl, omega arith)
   data_length ReadEin = (λ r. refl, omega arith)
-  data_length (Command.Reading q) = (λ r. refl, omega arith)
+  data_length (Reading q) = (λ r. refl, omega arith)
   data_length Revision = (λ r. refl, omega arith)
   data_length Absent = (λ r. refl, omega arith)
   data_length Command.Coefficients = (λ r. absurd (false≢true r), omega arith)
 
   -- and so are those of a request
-  pub request_length : (r : Result Request Refusal) → length (request_data u p r) ≤ 7
+  pub request_length : (r : Result Request ℕ) → length (request_data u p r) ≤ 7
   unfolding request_data coefficient_bytes
-  request_length (Err refusal) = omega arith
+  request_length (Err answer) = omega arith
   request_length (Ok (Request.Plain code k)) = (data_length (command_of code)).1
   request_length (Ok (Request.Coefficients code direction)) = omega arith
 
-  pub stream-length : (answer : ℕ) (r : Result Request Refusal) (header : List ℕ) → length (read_stream u p answer r header) ≤ 8
+  pub stream-length : (answer : ℕ) (r : Result Request ℕ) (header : List ℕ) → length (read_stream u p answer r header) ≤ 8
   unfolding read_stream checked
   stream-length answer r header =
       let l = request_data u p r in

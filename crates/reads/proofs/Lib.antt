@@ -1,4 +1,6 @@
+pub mod Fill
 pub mod Streams
+pub mod Numbered
 pub mod Sent
 pub mod Lengths
 pub mod HasThem

@@ -15,7 +15,7 @@ use Rattle.laws.proofs.Branches.{either}
 use Rattle.laws.proofs.Every.{agree, agree-test}
 use Rattle.cause.specs.Causes.{limit_of, read_codes}
 use Rattle.command.specs.Table.{table, lookup, entry_of}
-use Rattle.command.specs.Meaning.{command_of, setting_of, fault_of, status_of, reading_of}
+use Rattle.command.specs.Meaning.{command_of, setting_of, fault_of, reading_of}
 use Rattle.command.specs.Paged.{paged}
 use Rattle.command.specs.Quantity.{carried, quantity_of}
 use Rattle.command.specs.Agreement.{row_of}
@@ -68,7 +68,7 @@ some_sent false false false h = h
 
 -- the table's number of data bytes, by computation at each code
 pub data_due : (u : Unpaged) (p : Page) (c : ℕ) → c < 256 → (lookup c).read ≡ true → length (read_data u p (command_of c)) ≡ (lookup c).length
-unfolding lookup entry_of table row_of command_of setting_of fault_of status_of reading_of
+unfolding lookup entry_of table row_of command_of setting_of fault_of reading_of
 data_due u p c h r =
     (data_length u p (command_of c)).0
     (sym (agree-test (λ c. (lookup c).read) (λ c. (entry_of (row_of 0 (command_of c))).read) 256 tt c h) ∙ r)
@@ -134,9 +134,9 @@ replies_follow = record {
   of_code = λ u p c n small r.
       replies u p (plain_header c) n (lookup c).length (read_data u p (command_of c)) (every_page u && paged c) (data_due u p c small r) (rw r) (rw r);
   of_limit = λ u p i direction n few.
-      coefficients_reply u p (limit_of i).limit_code direction (limit_of i).quantity n (let m = (causes-agree.0 i few).limit in ap carried m.means ∙ ap (λ (k : ℕ). (limit_of k).quantity) m.numbered);
+      coefficients_reply u p (limit_of i).limit_code direction (limit_of i).quantity n (ap carried (causes-agree.0 i few).limit);
   of_measured = λ u p i direction n few.
-      coefficients_reply u p (get_or read_codes (limit_of i).quantity 0) direction (limit_of i).quantity n (let m = (causes-agree.0 i few).reading in ap carried m.means ∙ m.numbered);
+      coefficients_reply u p (get_or read_codes (limit_of i).quantity 0) direction (limit_of i).quantity n (ap carried (causes-agree.0 i few).reading);
   no_data = λ u p header n e.
       let a = read_answer u p header n in
       rw (none-sent (eqb a 0) (eqb a 10) (eqb a 11) e) (take_all n (replicate n 255) (rw (length-replicate) (le_refl n)));

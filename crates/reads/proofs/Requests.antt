@@ -11,7 +11,6 @@ use lib.Dec.{eqb}
 use borrow.Author.Tests.{eqb-true}
 use Rattle.std.specs.Prelude.{Result, Ok, Err}
 use Rattle.laws.proofs.Branches.{either, cond-apply, cond_same}
-use Rattle.answer.specs.declared.Refusal.{Refusal}
 use Rattle.command.specs.Table.{lookup}
 use Rattle.page.specs.declared.Page.{Page}
 use Rattle.unpaged.specs.declared.Unpaged.{Unpaged}
@@ -24,17 +23,17 @@ use Rattle.reads.specs.Answers.{data_answer, request_answer, read_answer, answer
 use Rattle.reads.specs.Applies.{code}
 
 -- the answer goes by whether every page is selected, and looks at nothing of the page but its formats
-pub answer-same : (u v : Unpaged) (p q : Page) (r : Result Request Refusal) (n : ℕ) → every_page u ≡ every_page v → p.formats ≡ q.formats
+pub answer-same : (u v : Unpaged) (p q : Page) (r : Result Request ℕ) (n : ℕ) → every_page u ≡ every_page v → p.formats ≡ q.formats
     → request_answer u p r n ≡ request_answer v q r n
 unfolding request_answer has_coefficients
-answer-same u v p q (Err refusal) n e f = refl
+answer-same u v p q (Err answer) n e f = refl
 answer-same u v p q (Ok (Plain code k)) n e f = rw e
 answer-same u v p q (Ok (Coefficients code direction)) n e f = rw (e, f)
 
 -- whether data are sent does not depend on the number of bytes clocked
-pub data_any : (u : Unpaged) (p : Page) (r : Result Request Refusal) (n m : ℕ) → answers_data (request_answer u p r n) ≡ answers_data (request_answer u p r m)
+pub data_any : (u : Unpaged) (p : Page) (r : Result Request ℕ) (n m : ℕ) → answers_data (request_answer u p r n) ≡ answers_data (request_answer u p r m)
 unfolding request_answer data_answer answers_data
-data_any u p (Err refusal) n m = refl
+data_any u p (Err answer) n m = refl
 data_any u p (Ok (Plain code k)) n m = simp (cond-apply answers_data, cond_same)
 data_any u p (Ok (Coefficients code direction)) n m = simp (cond-apply answers_data, cond_same)
 

@@ -1,8 +1,6 @@
 -- The answer of a read (data sheet 11.3), from the unpaged part u, the page shown p, the header and the number of bytes clocked n.
 -- Assumes nothing.
 use Rattle.std.specs.Prelude.{ℕ, ◌+◌, Bool, cond, not, ◌&&◌, ◌||◌, List, Result, Ok, Err, ltb, eqb}
-use Rattle.answer.specs.declared.Refusal.{Refusal}
-use Rattle.answer.specs.Answer.{number_of}
 use Rattle.command.specs.Paged.{paged}
 use Rattle.page.specs.declared.Page.{Page}
 use Rattle.unpaged.specs.declared.Unpaged.{Unpaged}
@@ -17,8 +15,8 @@ unfoldable pub data_answer : Bool → ℕ → ℕ → ℕ
 data_answer refused k n = cond refused 9 (cond (ltb n k) 10 (cond (ltb (k + 1) n) 11 0))
 
 -- by what is asked for: a paged code is refused where every page is selected, and so are coefficients there, and those that the page has not
-unfoldable pub request_answer : Unpaged → Page → Result Request Refusal → ℕ → ℕ
-request_answer u p (Err refusal) n = number_of refusal
+unfoldable pub request_answer : Unpaged → Page → Result Request ℕ → ℕ → ℕ
+request_answer u p (Err answer) n = answer
 request_answer u p (Ok (Plain code k)) n = data_answer (every_page u && paged code) k n
 request_answer u p (Ok (Coefficients code direction)) n = data_answer (every_page u || not (has_coefficients p code direction)) 6 n
 

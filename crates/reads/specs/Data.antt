@@ -1,13 +1,11 @@
 -- The data of a readable command, made from the state handed in, and what is sent of it.
 -- Assumes nothing.
 use Rattle.std.specs.Prelude.{ℕ, ◌%◌, ◌/◌, cond, List, [], ◌∷◌, ◌++◌, Result, Ok, Err, get_or, eqb}
-use Rattle.answer.specs.declared.Refusal.{Refusal}
 use Rattle.pec.specs.Pec.{pec}
 use Rattle.account.specs.Account.{ein_bytes}
-use Rattle.cause.specs.Kinds.{quantity_number, cause_number, limit_number, register_number}
 use Rattle.command.specs.Meaning.{command_of}
 use Rattle.command.specs.declared.meaning.Command.{Command}
-use Rattle.command.specs.declared.meaning.Command.TheVariants.{SelectPage, Operation, ClearFaults, WriteProtect, Capability, VoutMode, VoutCommand, StatusByte, StatusWord, StatusCml, ReadEin, Revision, Absent}
+use Rattle.command.specs.declared.meaning.Command.TheVariants.{SelectPage, Operation, ClearFaults, WriteProtect, Capability, VoutMode, VoutCommand, Limit, Response, StatusByte, StatusWord, Status, ReadEin, Reading, Revision, Absent}
 use Rattle.page.specs.declared.Page.{Page}
 use Rattle.page.specs.Status.{status_byte, status_high, reading}
 use Rattle.unpaged.specs.declared.Unpaged.{Unpaged}
@@ -32,21 +30,20 @@ read_data u p WriteProtect = u.protect ∷ []
 read_data u p Capability = 0xB0 ∷ []
 read_data u p VoutMode = 0x13 ∷ []
 read_data u p VoutCommand = word_bytes p.command
-read_data u p (Command.Limit l) = word_bytes (get_or p.limits (limit_number l % 11) 0)
-read_data u p (Command.Response k) = get_or p.responses (cause_number k % 6) 0 ∷ []
+read_data u p (Limit k) = word_bytes (get_or p.limits (k % 11) 0)
+read_data u p (Response k) = get_or p.responses (k % 6) 0 ∷ []
 read_data u p StatusByte = status_byte p u.cml ∷ []
 read_data u p StatusWord = status_byte p u.cml ∷ status_high p ∷ []
-read_data u p (Command.Status r) = status_register p u.cml (register_number r) ∷ []
-read_data u p StatusCml = status_register p u.cml 4 ∷ []
+read_data u p (Status k) = status_register p u.cml k ∷ []
 read_data u p ReadEin = ein_bytes u.energy
-read_data u p (Command.Reading q) = word_bytes (reading p (quantity_number q))
+read_data u p (Reading q) = word_bytes (reading p q)
 read_data u p Revision = 0x22 ∷ []
 read_data u p Absent = []
 read_data u p Command.Coefficients = []
 
 -- the data of what a read asks for
-unfoldable pub request_data : Unpaged → Page → Result Request Refusal → List ℕ
-request_data u p (Err refusal) = []
+unfoldable pub request_data : Unpaged → Page → Result Request ℕ → List ℕ
+request_data u p (Err answer) = []
 request_data u p (Ok (Request.Plain code k)) = read_data u p (command_of code)
 request_data u p (Ok (Request.Coefficients code direction)) = coefficient_bytes (format_of p code)
 
@@ -59,5 +56,5 @@ unfoldable pub checked : List ℕ → List ℕ → List ℕ
 checked header bytes = bytes ++ (pec (covered header ++ bytes) ∷ [])
 
 -- what the device sends; a reply is the beginning of it, filled up with FFh (data sheet 2.9)
-unfoldable pub read_stream : Unpaged → Page → ℕ → Result Request Refusal → List ℕ → List ℕ
+unfoldable pub read_stream : Unpaged → Page → ℕ → Result Request ℕ → List ℕ → List ℕ
 read_stream u p answer request header = cond (answers_data answer) (checked header (request_data u p request)) []

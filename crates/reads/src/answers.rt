@@ -1,6 +1,6 @@
 // The answer of a read, from the unpaged part, the page shown, what is asked for and the number of bytes clocked. They stay
 // apart, as docs/PROMISES.md has `read_answer` (2.1 and on).
-ghost use Rattle.std.specs.Prelude.{◌≡◌};
+ghost use Rattle.std.specs.Prelude.{◌≡◌, Ok};
 ghost use Rattle.answer.specs.Answer.{answer_of};
 ghost use Rattle.reads.specs.Answers.{data_answer, request_answer, read_answer, answers_data};
 
@@ -41,16 +41,11 @@ fn check_length(refused: bool, due: u8, n: usize) -> Result<(), Refusal>
 // The answer to a request, on the page shown, with n bytes clocked. Where every page is selected, no page is read, and there are no
 // coefficients.
 #[tactic(auto, unfolding(crate::specs::Answers::request_answer))]
-pub fn request_answer(
-    u: Unpaged,
-    p: Page,
-    request: Result<Request, Refusal>,
-    n: usize,
-) -> Result<(), Refusal>
-    ensures { answer_of result ≡ request_answer u p request n }
+fn check_request(u: Unpaged, p: Page, request: Request, n: usize) -> Result<(), Refusal>
+    ensures { answer_of result ≡ request_answer u p (Ok request) n }
 {
     let everywhere = u.page == EVERY_PAGE;
-    match request? {
+    match request {
         Request::Plain(code, due) => check_length(everywhere && is_paged(code), due, n),
         Request::Coefficients(code, direction) => {
             let none = everywhere || !has_coefficients(p, code, direction);
@@ -59,12 +54,23 @@ pub fn request_answer(
     }
 }
 
+// The number of that answer, or that which the request has: docs/PROMISES.md (20.8) promises it for every number.
+#[tactic(auto, unfolding(crate::specs::Answers::request_answer))]
+pub fn request_answer(u: Unpaged, p: Page, request: Result<Request, u8>, n: usize) -> u8
+    ensures { result ≡ request_answer u p request n }
+{
+    match request {
+        Ok(asked) => answer::number(check_request(u, p, asked, n)),
+        Err(answer) => answer,
+    }
+}
+
 // The answer of a read with this header.
-#[tactic(auto, unfolding(crate::specs::Answers::read_answer))]
+#[tactic(auto, unfolding(crate::specs::Answers::read_answer, crate::specs::Answers::request_answer))]
 pub fn read_answer(u: Unpaged, p: Page, header: &[u8], n: usize) -> Result<(), Refusal>
     ensures { answer_of result ≡ read_answer u p header.now n }
 {
-    request_answer(u, p, request::request_of(header), n)
+    check_request(u, p, request::request_of(header)?, n)
 }
 
 // Whether the answer of this number comes with data: done, too short and too long do.

@@ -28,8 +28,6 @@ fn has_direction(code: u8, direction: u8) -> bool
 pub fn has_coefficients(p: Page, code: u8, direction: u8) -> bool
     ensures { result ≡ has_coefficients p code direction }
 {
-    let Some(quantity) = command::quantity::quantity_of(code) else {
-        return false;
-    };
+    let quantity = command::quantity::quantity_of(code);
     page::formats::is_direct(p.formats, quantity) && has_direction(code, direction)
 }

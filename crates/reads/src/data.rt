@@ -7,11 +7,11 @@ ghost use Rattle.reads.specs.Data.{word_bytes, read_data, request_data, covered,
 use super::answers::answers_data;
 use super::reply::Stream;
 use super::request::Request;
-use answer::Refusal;
 use command::Command;
+use command::meaning::CML_REGISTER;
 use page::Page;
 use unpaged::Unpaged;
-use value::format::{Format, LINEAR};
+use value::format::Format;
 
 // The data of CAPABILITY: packet checks, 400 kHz and SMBALERT#.
 const CAPABILITY_DATA: u8 = 0xB0;
@@ -24,6 +24,13 @@ const REVISION_DATA: u8 = 0x22;
 
 // The bytes that follow the count in what COEFFICIENTS sends.
 const COUNT: u8 = 5;
+
+// How many limits, causes and registers a page has. A command has the number of one, and what it reads is promised for every number.
+const LIMITS: u8 = 11;
+
+const CAUSES: u8 = 6;
+
+const REGISTERS: u8 = 4;
 
 // A word, low byte first.
 fn word(word: u16) -> Stream
@@ -44,14 +51,14 @@ pub fn read_data(u: Unpaged, p: Page, command: Command) -> Stream
         Command::Capability => Stream::new(&[CAPABILITY_DATA]),
         Command::VoutMode => Stream::new(&[VOUT_MODE_DATA]),
         Command::VoutCommand => word(p.command),
-        Command::Limit(limit) => word(p.limits[limit as usize]),
-        Command::Response(cause) => Stream::new(&[p.responses[cause as usize]]),
+        Command::Limit(limit) => word(p.limits[usize::from(limit % LIMITS)]),
+        Command::Response(cause) => Stream::new(&[p.responses[usize::from(cause % CAUSES)]]),
         Command::StatusByte => Stream::new(&[page::status::status_byte(p, u.cml)]),
         Command::StatusWord => Stream::new(&page::status::status_word(p, u.cml)),
-        Command::Status(register) => Stream::new(&[p.status[register as usize]]),
-        Command::StatusCml => Stream::new(&[u.cml]),
+        Command::Status(CML_REGISTER) => Stream::new(&[u.cml]),
+        Command::Status(register) => Stream::new(&[p.status[usize::from(register % REGISTERS)]]),
         Command::ReadEin => Stream::new(&account::ein_bytes(u.energy)),
-        Command::Reading(quantity) => word(page::status::reading(p, quantity.into())),
+        Command::Reading(quantity) => word(page::status::reading(p, quantity)),
         Command::Revision => Stream::new(&[REVISION_DATA]),
         Command::ClearFaults | Command::Absent | Command::Coefficients => Stream::new(&[]),
     }
@@ -67,19 +74,16 @@ fn coefficients(format: Format) -> Stream
     Stream::new(&[COUNT, m_low, m_high, b_low, b_high, format.r])
 }
 
-// The format of a code's value on a page. A code that carries none has no coefficients either, and the linear format stands in.
+// The format of a code's value on a page.
 fn format_of(p: Page, code: u8) -> Format
     ensures { result ≡ format_of p code }
 {
-    match command::quantity::quantity_of(code) {
-        Some(quantity) => page::formats::format_of(p.formats, quantity),
-        None => LINEAR,
-    }
+    page::formats::format_of(p.formats, command::quantity::quantity_of(code))
 }
 
 // The data of what is asked for.
 #[tactic(auto, unfolding(crate::specs::Data::request_data))]
-fn request_data(u: Unpaged, p: Page, request: Result<Request, Refusal>) -> Stream
+fn request_data(u: Unpaged, p: Page, request: Result<Request, u8>) -> Stream
     ensures { result ≡ request_data u p request }
 {
     match request {
@@ -115,7 +119,7 @@ pub fn read_stream(
     u: Unpaged,
     p: Page,
     answer: u8,
-    request: Result<Request, Refusal>,
+    request: Result<Request, u8>,
     header: &[u8],
 ) -> Stream
     ensures { result ≡ read_stream u p answer request header.now }

@@ -66,15 +66,13 @@ impl Stream {
     }
 }
 
-// Fills the whole buffer.
+// Fills the whole buffer, byte by byte: for a copy and a fill LLVM calls memcpy and memset, which liblent.a does without.
 pub fn send(reply: &mut [u8], bytes: &[u8])
     ensures { reply.new ≡ reply_of bytes.now (length reply.old) }
 {
-    let n = bytes.len().min(reply.len());
-    for i in 0..n {
-        reply[i] = bytes[i];
+    for i in 0..reply.len() {
+        reply[i] = bytes.get(i).copied().unwrap_or(IDLE);
     }
-    reply[n..].fill(IDLE);
 }
 
 // What an alert response sends with this answer: the device's address, or nothing.

@@ -1,7 +1,7 @@
 // What a read asks for, as data: by its header alone.
 ghost use Rattle.std.specs.Prelude.{◌≡◌};
 ghost use Rattle.command.specs.Table.{lookup};
-ghost use Rattle.reads.specs.Request.{plain_of, request_of};
+ghost use Rattle.reads.specs.Request.{plain_of, request_of, numbered};
 
 use answer::Refusal;
 use command::codes::COEFFICIENTS;
@@ -24,7 +24,7 @@ const CODE_AND_DIRECTION: u8 = 2;
 
 #[tactic(auto, unfolding(crate::specs::Request::plain_of))]
 fn plain_of(code: u8) -> Result<Request, Refusal>
-    ensures { result ≡ plain_of (lookup code) code }
+    ensures { numbered result ≡ plain_of (lookup code) code }
 {
     match command::lookup(code) {
         Some(entry) if entry.read => Ok(Request::Plain(code, entry.length)),
@@ -35,7 +35,7 @@ fn plain_of(code: u8) -> Result<Request, Refusal>
 // The header is the write address, a code and the read address, or that of a process call.
 #[tactic(auto, unfolding(crate::specs::Request::request_of, crate::specs::Request::addressed_of, crate::specs::Request::process_of, crate::specs::Request::coefficients_of))]
 pub fn request_of(header: &[u8]) -> Result<Request, Refusal>
-    ensures { result ≡ request_of header.now }
+    ensures { numbered result ≡ request_of header.now }
 {
     match header {
         [WRITE_ADDRESS, code, READ_ADDRESS] => plain_of(*code),

@@ -29,7 +29,10 @@ fn right_check(code: u8, k: u8, reply: &[u8]) -> bool
     ensures { result ≡ eqb (reply_check code k reply.now) (get_or reply.now k 0) }
 {
     let n = usize::from(k);
-    let header = pec::pec(&[WRITE_ADDRESS, code, READ_ADDRESS]);
+    let header = pec::pec_byte(
+        pec::pec_byte(pec::pec_byte(0, WRITE_ADDRESS), code),
+        READ_ADDRESS,
+    );
     pec::pec_from(header, &reply[..n]) == reply[n]
 }
 

@@ -28,8 +28,16 @@ pub fn any_trips_now(before: [u8; 6], after: [u8; 6]) -> bool
     (0..6).any(|k| super::trips_now(before[k], after[k]))
 }
 
+// Machine by machine and no walk: the test for 15 looks at those of eight pages at every event.
+#[tactic(auto, unfolding(crate::specs::Machines::all_valid))]
 pub fn all_valid(machines: [u8; 6]) -> bool
     ensures { result ≡ all_valid machines }
 {
-    machines[1] == super::REST && machines.iter().all(|&m| super::valid(m))
+    let [vout_ov, iout_oc, ot, ut, vin_ov, vin_uv] = machines;
+    super::valid(vout_ov)
+        && iout_oc == super::REST
+        && super::valid(ot)
+        && super::valid(ut)
+        && super::valid(vin_ov)
+        && super::valid(vin_uv)
 }

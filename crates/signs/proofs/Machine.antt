@@ -17,7 +17,7 @@ pub held : (z : ℤ) → nat_abs z < 9223372036854775808 → to_z w64 (of_z w64 
 held z h = to_z-of_z w64 z (fits_size z h)
 
 -- sizes
-abs_neg : (z : ℤ) → nat_abs (neg_ℤ z) ≡ nat_abs z
+pub abs_neg : (z : ℤ) → nat_abs (neg_ℤ z) ≡ nat_abs z
 abs_neg z = omega (arith, ints)
 
 pub abs_times : (x y : ℤ) → nat_abs (x *ℤ y) ≡ nat_abs x * nat_abs y

@@ -10,8 +10,6 @@ use lib.Seq.{take_all, get_or-take}
 use lib.Dec.{ltb, leb, eqb}
 use borrow.Author.Tests.{ltb-true, ltb-false, lt-ltb, le-ltb, leb-true, ne_eqb}
 use Rattle.std.specs.Prelude.{Result, Ok, Err}
-use Rattle.answer.specs.declared.Refusal.{Refusal}
-use Rattle.answer.specs.declared.Refusal.TheVariants.{WrongAddress, Malformed}
 use Rattle.laws.specs.Lists.{all_of}
 use Rattle.laws.proofs.Branches.{either, cond_same}
 use Rattle.page.specs.declared.Page.{Page}
@@ -71,11 +69,11 @@ too_long n u s k code w h =
     )
 
 -- a header of more than six bytes asks for nothing
-long-process : (h : List ℕ) (code : ℕ) → 6 < length h → process_of h code ≡ Err Malformed
+long-process : (h : List ℕ) (code : ℕ) → 6 < length h → process_of h code ≡ Err 2
 unfolding process_of coefficients_of
-long-process h code l = rw (ne_eqb (length h) 6 (λ e. omega arith)) (cond_same (eqb code 0x30) (Err Malformed))
+long-process h code l = rw (ne_eqb (length h) 6 (λ e. omega arith)) (cond_same (eqb code 0x30) (Err 2))
 
-long-refused : (h : List ℕ) → 6 < length h → request_of h ≡ cond (eqb (get_or h 0 0) 0xC0) (Err Malformed) (Err WrongAddress)
+long-refused : (h : List ℕ) → 6 < length h → request_of h ≡ cond (eqb (get_or h 0 0) 0xC0) (Err 2) (Err 1)
 unfolding request_of addressed_of
 long-refused h l =
     rw (ne_eqb (length h) 0 (λ e. omega arith), ne_eqb (length h) 3 (λ e. omega arith), long-process h (get_or h 1 0) l)
@@ -104,7 +102,7 @@ module _ (s : List ℕ) (long : 11 < length s) where
   long-request =
       let c = cut in
       long-refused (take 11 s) (omega arith)
-      ∙ ap (λ (x : ℕ). cond (eqb x 0xC0) (Err Malformed) (Err WrongAddress)) (at s 0 (omega arith)) ∙ sym (long-refused s (omega arith))
+      ∙ ap (λ (x : ℕ). cond (eqb x 0xC0) (Err 2) (Err 1)) (at s 0 (omega arith)) ∙ sym (long-refused s (omega arith))
 
   long-orderly : orderly (take 11 s) ≡ orderly s
   unfolding orderly
@@ -181,7 +179,7 @@ many_data refused k n few =
       lt-ltb (k + 1) 9 (omega arith),
     ))
 
-many : (u : Unpaged) (p : Page) (r : Result Request Refusal) (n : ℕ) → due_of r ≤ 7 → request_answer u p r (min n 9) ≡ request_answer u p r n
+many : (u : Unpaged) (p : Page) (r : Result Request ℕ) (n : ℕ) → due_of r ≤ 7 → request_answer u p r (min n 9) ≡ request_answer u p r n
 unfolding request_answer due_of
 many u p (Err refusal) n few = refl
 many u p (Ok (Plain code k)) n few = many_data _ k n few

@@ -27,8 +27,8 @@ pub fn eight_valid() -> Option<u8>
 pub fn reply(u: Unpaged, p: Page, header: &[u8]) -> [u8; 8]
     ensures { result ≡ page_reply u p header.now }
 {
-    let request = reads::request::request_of(header);
-    let answer = answer::number(reads::answers::request_answer(u, p, request, 8));
+    let request = reads::request::request_of(header).map_err(u8::from);
+    let answer = reads::answers::request_answer(u, p, request, 8);
     let stream = reads::data::read_stream(u, p, answer, request, header);
     let mut bytes = [0; 8];
     reads::reply::send(&mut bytes, stream.as_slice());

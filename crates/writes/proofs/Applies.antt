@@ -15,11 +15,10 @@ use Rattle.laws.proofs.Every.{agree, agree-test}
 use Rattle.laws.proofs.Lists.{byte-lt}
 use Rattle.pec.specs.Pec.{pec}
 use Rattle.cause.specs.Causes.{Actions, voltage, current, causes, response_of, valid_at}
-use Rattle.cause.specs.Kinds.{cause_number, register_number}
 use Rattle.command.specs.Table.{lookup}
-use Rattle.command.specs.Meaning.{command_of, setting_of, fault_of, status_of, reading_of}
+use Rattle.command.specs.Meaning.{command_of, setting_of, fault_of, reading_of}
 use Rattle.command.specs.declared.meaning.Command.{Command}
-use Rattle.command.specs.declared.meaning.Command.TheVariants.{SelectPage, Operation, ClearFaults, WriteProtect, Capability, VoutMode, VoutCommand, StatusByte, StatusWord, StatusCml, ReadEin, Revision, Absent, Coefficients}
+use Rattle.command.specs.declared.meaning.Command.TheVariants.{SelectPage, Operation, ClearFaults, WriteProtect, Capability, VoutMode, VoutCommand, Limit, Response, StatusByte, StatusWord, Status, ReadEin, Reading, Revision, Absent, Coefficients}
 use Rattle.page.specs.Settings.{valid_operation, valid_response}
 use Rattle.unpaged.specs.declared.Unpaged.{Unpaged}
 use Rattle.unpaged.specs.Unpaged.{valid_page, valid_protect}
@@ -60,18 +59,17 @@ abbrev group_of : Command → ℕ
 group_of SelectPage = 0
 group_of Operation = 1
 group_of WriteProtect = 2
-group_of (Command.Response k) = group_of_actions (response_of (cause_number k)).actions
+group_of (Response k) = group_of_actions (response_of k).actions
 group_of ClearFaults = 4
 group_of Capability = 4
 group_of VoutMode = 4
 group_of VoutCommand = 4
-group_of (Command.Limit l) = 4
+group_of (Limit k) = 4
 group_of StatusByte = 4
 group_of StatusWord = 4
-group_of (Command.Status r) = 4
-group_of StatusCml = 4
+group_of (Status k) = 4
 group_of ReadEin = 4
-group_of (Command.Reading q) = 4
+group_of (Reading q) = 4
 group_of Revision = 4
 group_of Absent = 4
 group_of Coefficients = 4
@@ -85,7 +83,7 @@ group_at c =
     4)))
 
 same_groups : (c : ℕ) → c < 256 → group_of (command_of c) ≡ group_at c
-unfolding command_of setting_of fault_of status_of reading_of causes
+unfolding command_of setting_of fault_of reading_of causes
 same_groups c h = agree (λ c. group_of (command_of c)) group_at 256 tt c h
 
 valid_code : (n c x : ℕ) → valid_for n c x ≡ valid_in (group_at c) n x
@@ -105,18 +103,17 @@ module _ (n x w : ℕ) (byte : x < 256) where
   valid_command SelectPage = refl
   valid_command Operation = agree-test valid_operation (λ x. is_in x (0x00 ∷ 0x40 ∷ 0x80 ∷ [])) 256 tt x byte
   valid_command WriteProtect = agree-test valid_protect (λ x. is_in x (0x00 ∷ 0x20 ∷ 0x40 ∷ 0x80 ∷ [])) 256 tt x byte
-  valid_command (Command.Response k) = valid_actions (response_of (cause_number k)).actions
+  valid_command (Response k) = valid_actions (response_of k).actions
   valid_command ClearFaults = refl
   valid_command Capability = refl
   valid_command VoutMode = refl
   valid_command VoutCommand = refl
-  valid_command (Command.Limit l) = refl
+  valid_command (Limit k) = refl
   valid_command StatusByte = refl
   valid_command StatusWord = refl
-  valid_command (Command.Status r) = either (eqb (register_number r) 4) (λ y. rw y) (λ e. rw e)
-  valid_command StatusCml = refl
+  valid_command (Status k) = either (eqb k 4) (λ y. rw y) (λ e. rw e)
   valid_command ReadEin = refl
-  valid_command (Command.Reading q) = refl
+  valid_command (Reading q) = refl
   valid_command Revision = refl
   valid_command Absent = refl
   valid_command Coefficients = refl

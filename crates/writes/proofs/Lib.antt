@@ -2,4 +2,3 @@ pub mod Kept
 pub mod Applies
 pub mod Accepted
 pub mod Shows
-pub mod StatusWritten

@@ -8,7 +8,7 @@ use lib.ListN.{get_or}
 use Rattle.laws.proofs.Every.{agree-test}
 use Rattle.laws.proofs.Lists.{byte-lt}
 use Rattle.command.specs.Table.{table, lookup, entry_of}
-use Rattle.command.specs.Meaning.{command_of, setting_of, fault_of, status_of, reading_of}
+use Rattle.command.specs.Meaning.{command_of, setting_of, fault_of, reading_of}
 use Rattle.command.specs.Paged.{paged}
 use Rattle.page.specs.declared.Page.{Page}
 use Rattle.page.specs.Causes.{present, settled}
@@ -49,7 +49,7 @@ changed-shows (Write.ClearCml m) p n h c e = absurd (false≢true c)
 
 -- they are those of the paged codes
 paged-changes : (x w c : ℕ) → c < 256 → ((lookup c).written && paged c) ≡ changes (write_of (command_of c) x w)
-unfolding lookup entry_of table paged command_of setting_of fault_of status_of reading_of write_of clear_faults clear_status
+unfolding lookup entry_of table paged command_of setting_of fault_of reading_of write_of clear_faults clear_status
 paged-changes x w c h = agree-test (λ c. (lookup c).written && paged c) (λ c. changes (write_of (command_of c) x w)) 256 tt c h
 
 pub present-shows : PresentShows

@@ -1,10 +1,9 @@
 -- What a write asks for, as data, and which data are valid. Everything that speaks of writes goes by the kinds of `Write`, not by commands.
 -- Assumes nothing.
 use Rattle.std.specs.Prelude.{ℕ, ◌+◌, ◌*◌, Bool, true, cond, List, [], ◌∷◌, get_or, eqb}
-use Rattle.cause.specs.Kinds.{cause_number, register_number}
 use Rattle.command.specs.Meaning.{command_of}
 use Rattle.command.specs.declared.meaning.Command.{Command}
-use Rattle.command.specs.declared.meaning.Command.TheVariants.{SelectPage, Operation, ClearFaults, WriteProtect, Capability, VoutMode, VoutCommand, StatusByte, StatusWord, StatusCml, ReadEin, Revision, Absent, Coefficients}
+use Rattle.command.specs.declared.meaning.Command.TheVariants.{SelectPage, Operation, ClearFaults, WriteProtect, Capability, VoutMode, VoutCommand, Limit, Response, StatusByte, StatusWord, Status, ReadEin, Reading, Revision, Absent, Coefficients}
 use Rattle.page.specs.Causes.{weigh}
 use Rattle.page.specs.Settings.{valid_operation, valid_response}
 use Rattle.unpaged.specs.Unpaged.{valid_page, valid_protect}
@@ -45,16 +44,15 @@ write_of WriteProtect x w = Write.Protect x
 write_of ClearFaults x w = clear_faults
 write_of Operation x w = Write.Change (Setting.Operation x)
 write_of VoutCommand x w = Write.Change (Setting.VoutCommand w)
-write_of (Command.Limit l) x w = Write.Change (Setting.Limit l w)
-write_of (Command.Response k) x w = Write.Change (Setting.Response k x)
+write_of (Limit k) x w = Write.Change (Setting.Limit k w)
+write_of (Response k) x w = Write.Change (Setting.Response k x)
 write_of Capability x w = Write.Nothing
 write_of VoutMode x w = Write.Nothing
 write_of StatusByte x w = Write.Nothing
 write_of StatusWord x w = Write.Nothing
-write_of (Command.Status r) x w = clear_status (register_number r) x
-write_of StatusCml x w = clear_status 4 x
+write_of (Status k) x w = clear_status k x
 write_of ReadEin x w = Write.Nothing
-write_of (Command.Reading q) x w = Write.Nothing
+write_of (Reading q) x w = Write.Nothing
 write_of Revision x w = Write.Nothing
 write_of Absent x w = Write.Nothing
 write_of Coefficients x w = Write.Nothing
@@ -67,8 +65,8 @@ asked s = write_of (command_of (get_or s 1 0)) (get_or s 2 0) (word_of (get_or s
 unfoldable pub valid_setting : Setting → Bool
 valid_setting (Setting.Operation x) = valid_operation x
 valid_setting (Setting.VoutCommand w) = true
-valid_setting (Setting.Limit l w) = true
-valid_setting (Setting.Response k x) = valid_response (cause_number k) x
+valid_setting (Setting.Limit k w) = true
+valid_setting (Setting.Response k x) = valid_response k x
 
 -- in a device with n pages
 unfoldable pub valid_write : ℕ → Write → Bool

@@ -2,7 +2,6 @@
 -- Assumes nothing.
 use Rattle.std.specs.Prelude.{Bool, true, false}
 use Rattle.laws.specs.Bits.{without}
-use Rattle.cause.specs.Kinds.{cause_number, limit_number}
 use Rattle.page.specs.declared.Page.{Page}
 use Rattle.page.specs.Causes.{settled}
 use Rattle.page.specs.Settings.{set_operation, set_vout_command, set_limit, set_response, clear_bits}
@@ -17,8 +16,8 @@ use Rattle.writes.specs.Asked.{page_masks}
 unfoldable pub applied : Setting → Page → Page
 applied (Setting.Operation x) p = set_operation p x
 applied (Setting.VoutCommand w) p = set_vout_command p w
-applied (Setting.Limit l w) p = set_limit p (limit_number l) w
-applied (Setting.Response k x) p = set_response p (cause_number k) x
+applied (Setting.Limit k w) p = set_limit p k w
+applied (Setting.Response k x) p = set_response p k x
 
 -- and brought up to date: bit and trip of a cause that the change made present come in the same call (data sheet 6.4, 7.1)
 unfoldable pub changed : Setting → Page → Page

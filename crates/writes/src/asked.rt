@@ -1,19 +1,21 @@
 // What a write asks for, as data: a few kinds, whatever the command. Which data are valid.
 ghost use Rattle.std.specs.Prelude.{◌≡◌};
-ghost use Rattle.cause.specs.Kinds.{register_number};
 ghost use Rattle.writes.specs.Asked.{register_masks, write_of, asked, valid_setting, valid_write};
 
 use super::bytes::{byte_at, word_of};
-use cause::{Cause, Limit, Register};
+use cause::Register;
 use command::Command;
+use command::meaning::CML_REGISTER;
+use page::causes::weigh;
 
 // One setting of a page.
 #[derive(Clone, Copy, PartialEq, Eq)]
 pub enum Setting {
     Operation(u8),
     VoutCommand(u16),
-    Limit(Limit, u16),
-    Response(Cause, u8),
+    // a limit by its number, and a response by that of its cause
+    Limit(u8, u16),
+    Response(u8, u8),
 }
 
 // The status bits to clear, by register.
@@ -25,14 +27,6 @@ pub struct Masks {
     pub temperature: u8,
     pub cml: u8,
 }
-
-const NO_BITS: Masks = Masks {
-    vout: 0,
-    iout: 0,
-    input: 0,
-    temperature: 0,
-    cml: 0,
-};
 
 const EVERY_BIT: Masks = Masks {
     vout: 0xFF,
@@ -58,27 +52,16 @@ pub enum Write {
 }
 
 // The mask of one register of the pages.
-#[tactic(auto, unfolding(crate::specs::Asked::register_masks, page::specs::Causes::weigh))]
-fn register_masks(register: Register, mask: u8) -> Masks
-    ensures { result ≡ register_masks (register_number register) mask }
+#[tactic(auto, unfolding(crate::specs::Asked::register_masks))]
+fn register_masks(register: u8, mask: u8) -> Masks
+    ensures { result ≡ register_masks register mask }
 {
-    match register {
-        Register::Vout => Masks {
-            vout: mask,
-            ..NO_BITS
-        },
-        Register::Iout => Masks {
-            iout: mask,
-            ..NO_BITS
-        },
-        Register::Input => Masks {
-            input: mask,
-            ..NO_BITS
-        },
-        Register::Temperature => Masks {
-            temperature: mask,
-            ..NO_BITS
-        },
+    Masks {
+        vout: weigh(register == Register::Vout as u8, mask),
+        iout: weigh(register == Register::Iout as u8, mask),
+        input: weigh(register == Register::Input as u8, mask),
+        temperature: weigh(register == Register::Temperature as u8, mask),
+        cml: 0,
     }
 }
 
@@ -96,8 +79,8 @@ pub fn write_of(command: Command, x: u8, word: u16) -> Write
         Command::VoutCommand => Write::Change(Setting::VoutCommand(word)),
         Command::Limit(limit) => Write::Change(Setting::Limit(limit, word)),
         Command::Response(cause) => Write::Change(Setting::Response(cause, x)),
+        Command::Status(CML_REGISTER) => Write::ClearCml(x),
         Command::Status(register) => Write::Clear(register_masks(register, x)),
-        Command::StatusCml => Write::ClearCml(x),
         _ => Write::Nothing,
     }
 }
@@ -118,7 +101,7 @@ fn valid_setting(setting: Setting) -> bool
 {
     match setting {
         Setting::Operation(x) => page::settings::valid_operation(x),
-        Setting::Response(cause, x) => page::settings::valid_response(cause.into(), x),
+        Setting::Response(cause, x) => page::settings::valid_response(cause, x),
         Setting::VoutCommand(_) | Setting::Limit(_, _) => true,
     }
 }

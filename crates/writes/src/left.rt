@@ -2,14 +2,12 @@
 // caller sets it.
 ghost use Rattle.std.specs.Prelude.{◌≡◌};
 ghost use Rattle.laws.specs.Bits.{without};
-ghost use Rattle.cause.specs.Kinds.{cause_number, limit_number};
 ghost use Rattle.page.specs.Causes.{settled};
 ghost use Rattle.page.specs.Settings.{set_operation, set_vout_command, set_limit, set_response};
 ghost use Rattle.unpaged.specs.Unpaged.{with_cml};
 ghost use Rattle.writes.specs.Left.{changed, cleared, page_left, unpaged_left, clearing};
 
 use super::asked::{Masks, Setting, Write};
-use cause::{Cause, Limit};
 use page::Page;
 use unpaged::Unpaged;
 
@@ -27,16 +25,16 @@ fn commanded(p: Page, word: u16) -> Page
     page::causes::settled(page::settings::set_vout_command(p, word))
 }
 
-fn limited(p: Page, limit: Limit, word: u16) -> Page
-    ensures { result ≡ settled (set_limit p (limit_number limit) word) }
+fn limited(p: Page, limit: u8, word: u16) -> Page
+    ensures { result ≡ settled (set_limit p limit word) }
 {
     page::causes::settled(page::settings::set_limit(p, limit, word))
 }
 
-fn responded(p: Page, cause: Cause, x: u8) -> Page
-    ensures { result ≡ settled (set_response p (cause_number cause) x) }
+fn responded(p: Page, cause: u8, x: u8) -> Page
+    ensures { result ≡ settled (set_response p cause x) }
 {
-    page::causes::settled(page::settings::set_response(p, cause.into(), x))
+    page::causes::settled(page::settings::set_response(p, cause, x))
 }
 
 #[tactic(auto, unfolding(crate::specs::Left::changed, crate::specs::Left::applied))]

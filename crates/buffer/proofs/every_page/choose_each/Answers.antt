@@ -8,4 +8,4 @@ use Rattle.buffer.proofs.every_page.choose_each.Goals as goal
 
 pub returns : goal.returns
 returns c =
-    c.each.ensures.left ∙ ap (store_all page_form c.args.s.now pages_from) (chosen_mapped _ _ (λ k h. let e = c.each.ensures.pages k h in search rules))
+    c.fill_each.ensures.left ∙ ap (store_all page_form c.args.s.now pages_from) (chosen_mapped _ _ (λ k h. let e = c.fill_each.ensures.pages k h in search rules))

@@ -13,7 +13,7 @@ loop-i-preserved c =
     let h = c.loop-i in
     let l = pages_in c.args.s.now in
     any_turn any_status l h.found _ h.i (omega arith)
-    (c.any_status-found.ensures ∙ ap any_status (c.load_page.ensures ∙ within l h.i power_on_page no_page (omega arith))) h.invariant
+    (c.any_status-found.ensures ∙ ap any_status (within l h.i power_on_page no_page (omega arith))) h.invariant
 
 pub returns : goal.returns
 returns c = let h = c.loop-i in any_end any_status (pages_in c.args.s.now) h.found h.i (omega arith) h.invariant
